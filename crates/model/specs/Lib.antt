@@ -1,0 +1,12 @@
+pub mod Lists
+pub mod Limits
+pub mod Answers
+pub mod Store
+pub mod Damage
+pub mod Changes
+pub mod Judgement
+pub mod Reads
+pub mod Bytes
+pub mod Records
+pub mod Calls
+pub mod Restart
