@@ -1,0 +1,1 @@
+// The theorems about the definitions of crate model. There is no code here.

@@ -1,0 +1,95 @@
+// The Shape and Twice rules for the lists of a change. The calls judge their arguments by them, and the journal's reader its records.
+ghost use mathlib.Core.Path.{_≡_};
+ghost use Prim.Native.Nat.{_≤_};
+ghost use lib.Dec.{ltb, leb};
+ghost use lib.ListN.{length, drop};
+ghost use Rattle.model.specs.Lists.{both, allB, elemB, twiceB, risingFrom};
+ghost use Rattle.model.specs.Judgement.{objectsShaped, stampsShaped};
+
+// Every object is one of the store's.
+fn all_objects(objects: &[u64]) -> bool
+    ensures { λ r. ⌜ r ≡ allB (λ o. ltb o 512) (now (objects .entry)) ⌝ }
+{
+    let mut i: usize = 0;
+    while i < objects.len() {
+        if 512 <= objects[i] {
+            return false;
+        }
+        i += 1;
+    }
+    true
+}
+
+pub fn objects_shaped(objects: &[u64]) -> bool
+    ensures { λ r. ⌜ r ≡ objectsShaped (now (objects .entry)) ⌝ }
+{
+    if objects.len() < 1 {
+        return false;
+    }
+    if 16 < objects.len() {
+        return false;
+    }
+    all_objects(objects)
+}
+
+// The object stands in the list from a place on.
+fn named_from(objects: &[u64], from: usize, object: u64) -> bool
+    requires { ⌜ «from» ≤ length (now objects) ⌝ }
+    ensures { λ r. ⌜ r ≡ elemB object (drop «from» (now (objects .entry))) ⌝ }
+{
+    let mut i = from;
+    while i < objects.len() {
+        if objects[i] == object {
+            return true;
+        }
+        i += 1;
+    }
+    false
+}
+
+// Some object is named twice.
+pub fn named_twice(objects: &[u64]) -> bool
+    ensures { λ r. ⌜ r ≡ twiceB (now (objects .entry)) ⌝ }
+{
+    let mut i: usize = 0;
+    while i < objects.len() {
+        let object = objects[i];
+        i += 1;
+        if named_from(objects, i, object) {
+            return true;
+        }
+    }
+    false
+}
+
+// Strictly ascending, and each with prev < stamp <= curr.
+fn ascending_within(prev: u64, curr: u64, stamps: &[u64]) -> bool
+    ensures { λ r. ⌜ r ≡ both (risingFrom prev (now (stamps .entry))) (allB (λ s. leb s curr) (now (stamps .entry))) ⌝ }
+{
+    let mut below = prev;
+    let mut i: usize = 0;
+    while i < stamps.len() {
+        let stamp = stamps[i];
+        if stamp <= below {
+            return false;
+        }
+        if curr < stamp {
+            return false;
+        }
+        below = stamp;
+        i += 1;
+    }
+    true
+}
+
+pub fn stamps_shaped(prev: u64, curr: u64, stamps: &[u64]) -> bool
+    ensures { λ r. ⌜ r ≡ stampsShaped prev curr (now (stamps .entry)) ⌝ }
+{
+    if 16 < stamps.len() {
+        return false;
+    }
+    if curr < prev {
+        return false;
+    }
+    ascending_within(prev, curr, stamps)
+}
