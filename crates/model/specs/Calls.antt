@@ -1,6 +1,6 @@
 -- Document 01, "The journal" and "Numbers answered": a change with the journal that it is written to.
 use Prim.Native.Nat.{ℕ, _+_}
-use mathlib.Core.Bool.{Bool, true, false}
+use mathlib.Core.Bool.{Bool, true}
 use mathlib.Core.List.{List, _∷_}
 use lib.ListN.{length}
 use lib.Dec.{leb, eqb}

@@ -1,6 +1,6 @@
 -- Document 01, "Calls": the store after an accepted commit, gossip message or flush.
 use Prim.Native.Nat.{ℕ}
-use mathlib.Core.Bool.{Bool, true, false, not}
+use mathlib.Core.Bool.{Bool, not}
 use mathlib.Core.List.{List, [], _∷_, _++_, map}
 use lib.ListN.{set}
 use lib.Dec.{ltb, eqb}

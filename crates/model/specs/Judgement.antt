@@ -1,6 +1,6 @@
 -- Document 01, "Numbers answered", Order: what a change is refused for, whatever journal it goes to.
 use Prim.Native.Nat.{ℕ, max, min}
-use mathlib.Core.Bool.{Bool, true, false, not}
+use mathlib.Core.Bool.{Bool, false, not}
 use mathlib.Core.List.{List, [], _∷_}
 use lib.ListN.{length}
 use lib.Dec.{ltb, leb, eqb}

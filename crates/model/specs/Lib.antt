@@ -10,3 +10,4 @@ pub mod Bytes
 pub mod Records
 pub mod Calls
 pub mod Restart
+pub mod Night

@@ -1,5 +1,5 @@
 -- Document 01, "What the store is": the table of limits.
-use Prim.Native.Nat.{ℕ, _^_, _-_}
+use Prim.Native.Nat.{ℕ}
 
 abbrev pub pages : ℕ
 pages = 32

@@ -1,6 +1,6 @@
 -- Document 01, "Calls": the reads and standing. Order: 2, 3, 13, 14; a current read 2, 3; standing 2.
 use Prim.Native.Nat.{ℕ, _*_, _/_, max}
-use mathlib.Core.Bool.{Bool, true, false}
+use mathlib.Core.Bool.{Bool, true}
 use mathlib.Core.List.{List, [], _∷_}
 use lib.ListN.{length}
 use lib.Dec.{ltb, leb, eqb}

@@ -1,6 +1,5 @@
 -- Document 01, "Calls" and "The journal": fresh and restart.
 use Prim.Native.Nat.{ℕ, zero, suc}
-use mathlib.Core.Bool.{Bool, true, false}
 use mathlib.Core.List.{List, [], _∷_}
 use lib.ListN.{length}
 use lib.Dec.{ltb, eqb}

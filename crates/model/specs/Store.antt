@@ -1,6 +1,6 @@
 -- Document 01, "What the store holds".
 use Prim.Native.Nat.{ℕ, _+_, _*_, _/_, _%_, _-_, max}
-use mathlib.Core.Bool.{Bool, true, false}
+use mathlib.Core.Bool.{Bool}
 use mathlib.Core.List.{List, [], _∷_}
 use lib.ListN.{getD, replicate}
 use lib.Dec.{ltb, leb, eqb}

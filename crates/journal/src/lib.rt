@@ -1,0 +1,2 @@
+// The journal's bytes: records written at a place, and read from one.
+pub mod place;
