@@ -63,7 +63,7 @@ pub fn named_twice(objects: &[u64]) -> bool
 }
 
 // Strictly ascending, and each with prev < stamp <= curr.
-fn ascending_within(prev: u64, curr: u64, stamps: &[u64]) -> bool
+pub fn ascending_within(prev: u64, curr: u64, stamps: &[u64]) -> bool
     ensures { λ r. ⌜ r ≡ both (risingFrom prev (now (stamps .entry))) (allB (λ s. leb s curr) (now (stamps .entry))) ⌝ }
 {
     let mut below = prev;
