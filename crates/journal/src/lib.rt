@@ -1,2 +1,3 @@
 // The journal's bytes: records written at a place, and read from one.
 pub mod place;
+pub mod walk;
