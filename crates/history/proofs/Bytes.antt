@@ -4,44 +4,19 @@ use mathlib.Core.Path.{_≡_, refl, ap, sym, _∙_, subst}
 use mathlib.Core.List.{List, [], _∷_, _++_, append-assoc, append-nil}
 use native.Mathlib.Nat.{pow-suc, mul-assoc, add-zero, zero-add, pow-le-pow-right}
 use native.Mathlib.Omega.{arith}
-use mathlib.Core.Bool.{true}
-use borrow.Author.Tests.{ltb-true}
-use lib.ListN.{length, take, drop, getD, length-append, length-take}
+use lib.ListN.{length, take, drop, length-append, length-take}
 use lib.Seq.{length-take-le}
-use lib.Dec.{ltb, lit<}
-use Rattle.model.specs.Lists.{allB}
-use Rattle.history.proofs.Tests.{both-left, both-right}
+use lib.Dec.{lit<}
 use Rattle.model.specs.Bytes.{be, fromBeAfter, fromBe, column}
 use Rattle.history.specs.Words.{Below, Bytes}
+use Rattle.history.proofs.Lists.{all-append, all-take, all-drop}
 
 -- ---- lists of numbers below a bound
-pub below-append : (n : ℕ) (l m : List ℕ) → Below n l → Below n m → Below n (l ++ m)
-below-append n [] m h k = k
-below-append n (x ∷ xs) m h k = (h .0, below-append n xs m (h .1) k)
-
 pub below-take : (n i : ℕ) (l : List ℕ) → Below n l → Below n (take i l)
-below-take n zero l h = tt
-below-take n (suc i) [] h = tt
-below-take n (suc i) (x ∷ xs) h = (h .0, below-take n i xs (h .1))
+below-take n i l h = all-take (λ x. x < n) i l h
 
 pub below-drop : (n i : ℕ) (l : List ℕ) → Below n l → Below n (drop i l)
-below-drop n zero l h = h
-below-drop n (suc i) [] h = tt
-below-drop n (suc i) (x ∷ xs) h = below-drop n i xs (h .1)
-
-pub below-getD : (n i : ℕ) (l : List ℕ) (d : ℕ) → d < n → Below n l → getD l i d < n
-below-getD n i [] d k h = k
-below-getD n zero (x ∷ xs) d k h = h .0
-below-getD n (suc i) (x ∷ xs) d k h = below-getD n i xs d k (h .1)
-
-pub below-more : (m n : ℕ) (l : List ℕ) → m ≤ n → Below m l → Below n l
-below-more m n [] k h = tt
-below-more m n (x ∷ xs) k h = let l : x < m = h .0 in (omega arith, below-more m n xs k (h .1))
-
-pub below-all : (n : ℕ) (l : List ℕ) → allB (λ x. ltb x n) l ≡ true → Below n l
-below-all n [] h = tt
-below-all n (x ∷ xs) h =
-    (ltb-true x n (both-left (ltb x n) _ h), below-all n xs (both-right (ltb x n) _ h))
+below-drop n i l h = all-drop (λ x. x < n) i l h
 
 -- ---- the bytes of a number
 pub be-length : (w x : ℕ) → length (be w x) ≡ w
@@ -50,10 +25,10 @@ be-length (suc w) x = let ih = be-length w (x / 256) in simp length-append (omeg
 
 pub be-bytes : (w x : ℕ) → Bytes (be w x)
 be-bytes zero x = tt
-be-bytes (suc w) x = below-append 256 (be w (x / 256)) (x % 256 ∷ []) (be-bytes w (x / 256)) (omega arith, tt)
+be-bytes (suc w) x = all-append (λ x. x < 256) (be w (x / 256)) (x % 256 ∷ []) (be-bytes w (x / 256)) (omega arith, tt)
 
 pub bytes-then : (w x : ℕ) (bs : List ℕ) → Bytes bs → Bytes (be w x ++ bs)
-bytes-then w x bs h = below-append 256 (be w x) bs (be-bytes w x) h
+bytes-then w x bs h = all-append (λ x. x < 256) (be w x) bs (be-bytes w x) h
 
 pub be-one : (x : ℕ) → x < 256 → be 1 x ≡ x ∷ []
 be-one x h = let e : x % 256 ≡ x = omega arith in rw e

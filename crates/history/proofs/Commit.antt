@@ -14,7 +14,8 @@ use Rattle.model.specs.Store.{Store, pageOf, mark, holdsB, liveB, Slot, none, s
 use Rattle.model.specs.Changes.{Write, closed, displaced, writeOne, writes, lastAt, commitStore}
 use Rattle.history.specs.History.{writeSeen, writesSeen}
 use Rattle.history.proofs.Laws.{by-test, clash, by-le}
-use Rattle.history.proofs.Lists.{All, all-map, all-elem}
+use Rattle.history.specs.Words.{All}
+use Rattle.history.proofs.Lists.{all-map, all-elem}
 use Rattle.history.proofs.Invariant.{neededB, Truth, WaitOk, TrueRow, SoundAt, Whole}
 use Rattle.history.proofs.Sound.{by-slot, held, holds, live-needed, now-from, disk-last}
 use Rattle.history.proofs.Judged.{CommitOk}

@@ -9,7 +9,7 @@ use borrow.Author.Tests.{eqb-false, le-leb, lt-leb, ne-eqb}
 use Rattle.model.specs.Lists.{both, pick}
 use Rattle.model.specs.Store.{Copy, mark, Served, unserved, by, older, oldest}
 use Rattle.history.proofs.Laws.{by-test, by-le, pick-all}
-use Rattle.history.proofs.Lists.{All}
+use Rattle.history.specs.Words.{All}
 use Rattle.history.proofs.Invariant.{ServedBy}
 
 -- ---- the mark

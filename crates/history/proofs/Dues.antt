@@ -13,7 +13,8 @@ use Rattle.model.specs.Lists.{elemB}
 use Rattle.model.specs.Store.{Copy, Store, objectAt, pageOf, slotOf, someSlot, mark, by, oldest, look, asOf, pageAsOf}
 use Rattle.model.specs.Changes.{dueB, dues, copyAt}
 use Rattle.history.proofs.Laws.{by-test, clash, both-left, either-cases, pick-all}
-use Rattle.history.proofs.Lists.{All, Rising, all-map, all-every, all-mapped, all-elem, elem-all, getD-page, no-slot}
+use Rattle.history.specs.Words.{All}
+use Rattle.history.proofs.Lists.{Rising, all-map, all-every, all-mapped, all-elem, elem-all, getD-page, no-slot}
 use Rattle.history.proofs.Invariant.{ServedBy, SoundAt}
 use Rattle.history.proofs.Sound.{needed-known, look-true, read-true}
 use Rattle.history.proofs.Copies.{mark-least, oldest-least, oldest-low, served-first}

@@ -16,8 +16,9 @@ use Rattle.model.specs.Judgement.{objectsShaped, stampsShaped, wellFormed}
 use Rattle.model.specs.Records.{lengthOf, writeBytes, stampBytes, bodyOf, kindOf, encode, commitIn, gossipIn, flushIn, Decoded, bad, good, checked, decode, end, short, whole, stepOf, sized, stepOn, stepAt}
 use Rattle.model.specs.Calls.{appended, written, reached}
 use Rattle.history.specs.Words.{Below, Bytes, Words, Begins, Only}
-use Rattle.history.proofs.Tests.{never, both-left, both-right, either-none, pick-cases}
-use Rattle.history.proofs.Bytes.{below-take, below-drop, below-getD, below-more, below-all, be-bytes, bytes-then, be-one, round-trip, back-take, bound-take, column-length, column-below}
+use Rattle.history.proofs.Laws.{never, both-left, both-right, either-none, pick-cases}
+use Rattle.history.proofs.Lists.{all-map, all-getD, all-true}
+use Rattle.history.proofs.Bytes.{below-take, below-drop, be-bytes, bytes-then, be-one, round-trip, back-take, bound-take, column-length, column-below}
 
 -- ---- lengths
 write-length : (ws : List Write) → length (writeBytes ws) ≡ 10 * length ws
@@ -71,7 +72,7 @@ unfolding objectsShaped
 writes-shaped os h =
     let few = both (leb 1 (length os)) (leb (length os) 16) in
     let n = both-right (leb 1 (length os)) _ (both-left few _ h) in
-    (leb-true _ _ n, below-more 512 65536 os (omega arith) (below-all 512 os (both-right few _ h)))
+    (leb-true _ _ n, all-map (λ o (e : ltb o 512 ≡ true). omega (arith, ltb-true o 512 e)) os (all-true (λ o. ltb o 512) os (both-right few _ h)))
 
 commit-shaped : (t : ℕ) (ws : List Write) → wellFormed (commit t ws) ≡ true → (length ws ≤ 16) × Below 65536 (objectsOf ws)
 commit-shaped t ws h =
@@ -230,7 +231,7 @@ paired-length [] vs h = refl
 paired-length (o ∷ os) [] h = sym h
 paired-length (o ∷ os) (v ∷ vs) h = ap suc (paired-length os vs (suc-inj h))
 
-paired-below : (n : ℕ) (os vs : List ℕ) → Below n vs → Below n (map (λ w. w .value) (paired os vs))
+pub paired-below : (n : ℕ) (os vs : List ℕ) → Below n vs → Below n (map (λ w. w .value) (paired os vs))
 paired-below n [] vs h = tt
 paired-below n (o ∷ os) [] h = tt
 paired-below n (o ∷ os) (v ∷ vs) h = (h .0, paired-below n os vs (h .1))
@@ -238,7 +239,7 @@ paired-below n (o ∷ os) (v ∷ vs) h = (h .0, paired-below n os vs (h .1))
 -- the count m stands as the byte at i, and the rows behind it
 counted : (i m : ℕ) (b : List ℕ) → Bytes b → i < length b → m ≡ getD b i 0 → be 1 m ++ drop (suc i) b ≡ drop i b
 counted i m b h l e =
-    let k : m < 256 = subst (λ (x : ℕ). x < 256) (sym e) (below-getD 256 i b 0 (lit< tt) h) in
+    let k : m < 256 = subst (λ (x : ℕ). x < 256) (sym e) (all-getD (λ x. x < 256) i b 0 (lit< tt) h) in
     ap (λ (l : List ℕ). l ++ drop (suc i) b) (be-one m k) ∙ rw e (sym (drop-cons b i 0 l))
 
 commit-again : (b : List ℕ) → Bytes b → suc (length b) ≡ lengthOf (commitIn b) → (bodyOf (commitIn b) ≡ b) × Words (commitIn b)

@@ -13,7 +13,8 @@ use Rattle.model.specs.Lists.{anyB, kept}
 use Rattle.model.specs.Store.{pageOf, Slot, none, some, lookup}
 use Rattle.model.specs.Changes.{ofPage, stored}
 use Rattle.history.proofs.Laws.{by-test, either-left, either-right}
-use Rattle.history.proofs.Lists.{All, all-map}
+use Rattle.history.specs.Words.{All}
+use Rattle.history.proofs.Lists.{all-map}
 use Rattle.history.proofs.Invariant.{Single}
 
 -- ---- what is found

@@ -12,7 +12,8 @@ use Rattle.model.specs.Lists.{anyB, kept, elemB}
 use Rattle.model.specs.Store.{Store, pageOf, mark, holdsB, Slot, none, some, lookup, oldest, disk, current}
 use Rattle.model.specs.Changes.{dues, copyAt, copiesAfter, ofPage, buried, staysB, flushStore}
 use Rattle.history.proofs.Laws.{by-test, clash, by-le}
-use Rattle.history.proofs.Lists.{All, all-map, all-append, all-kept, all-mapped, elem-all}
+use Rattle.history.specs.Words.{All}
+use Rattle.history.proofs.Lists.{all-map, all-append, all-kept, all-mapped, elem-all}
 use Rattle.history.proofs.Invariant.{neededB, WaitOk, Waits, TrueRow, ServedBy, SoundAt, Whole}
 use Rattle.history.proofs.Sound.{held, holds, unserved-beyond}
 use Rattle.history.proofs.Entries.{found-object, all-found, gone, stayed, any-gone}

@@ -13,7 +13,8 @@ use Rattle.model.specs.Lists.{both, either, anyB, elemB}
 use Rattle.model.specs.Store.{Store, pageOf, slotOf, mark, holdsB, Slot, none, some, lookup, Served, unserved, by, oldest, disk, pastSeen, current}
 use Rattle.model.specs.Changes.{Change}
 use Rattle.history.specs.History.{latest}
-use Rattle.history.proofs.Lists.{All, Rising}
+use Rattle.history.specs.Words.{All}
+use Rattle.history.proofs.Lists.{Rising}
 
 -- a stamp whose value must still be found among pending, past and disk: h the horizon, m the mark of the object's page
 abbrev pub neededB : ℕ → List ℕ → ℕ → ℕ → Bool

@@ -15,7 +15,8 @@ use Rattle.model.specs.Store.{Store}
 use Rattle.model.specs.Changes.{Write, objectsOf, commit, gossip, flush, commitStore, gossipStore, dues, ofPage, flushStore}
 use Rattle.model.specs.Judgement.{objectsShaped, stampsShaped, wellFormed, judgeCommit, Compared, same, differ, compared, against, agreed, judgeGossip, judgeFlush, judge}
 use Rattle.history.proofs.Laws.{by-test, both-left, both-right, split, either-none}
-use Rattle.history.proofs.Lists.{All, Rising, all-map, all-both, all-true, rising-true}
+use Rattle.history.specs.Words.{All}
+use Rattle.history.proofs.Lists.{Rising, all-map, all-both, all-true, rising-true}
 
 -- ---- a test passed on the way to yes
 passed : (b : Bool) (a : Answer) (v : Verdict) → pick b (Refused a) v ≡ Accepted → (b ≡ false) × (v ≡ Accepted)

@@ -2,6 +2,7 @@
 use Prim.Native.Nat.{ℕ, _≤_, _<_}
 use mathlib.Core.Path.{_≡_, refl, sym, _∙_}
 use mathlib.Core.Bool.{Bool, true, false, true≢false}
+use native.Mathlib.Omega.{arith}
 use lib.Dec.{leb, eqb}
 use borrow.Author.Tests.{leb-true, leb-false, eqb-true, eqb-false}
 use Rattle.model.specs.Lists.{both, either, pick}
@@ -13,6 +14,10 @@ by-test false f g = g refl
 
 pub clash : {C : Type 0} (b : Bool) → b ≡ true → b ≡ false → C
 clash b p q = absurd (true≢false (sym p ∙ q))
+
+-- for two constructors that should be equal: cc proves 0 ≡ 1 of them
+pub never : {C : Type 0} → _≡_ {A = ℕ} 0 1 → C
+never h = absurd (omega arith)
 
 pub by-le : {C : Type 0} (a b : ℕ) → (a ≤ b → C) → (b < a → C) → C
 by-le a b f g = by-test (leb a b) (λ e. f (leb-true a b e)) (λ e. g (leb-false a b e))
@@ -65,3 +70,8 @@ either-cases false b h f g = g h
 pub pick-all : {A : Type 0} (P : A → Type 0) (b : Bool) {x y : A} → (b ≡ true → P x) → (b ≡ false → P y) → P (pick b x y)
 pick-all P true f g = f refl
 pick-all P false f g = g refl
+
+-- a choice that is z is the one or the other
+pub pick-cases : {A C : Type 0} {x y z : A} (b : Bool) → pick b x y ≡ z → (b ≡ true → x ≡ z → C) → (b ≡ false → y ≡ z → C) → C
+pick-cases true h f g = f refl h
+pick-cases false h f g = g refl h

@@ -1,8 +1,8 @@
-pub mod Tests
-pub mod Bytes
-pub mod Encoding
 pub mod Laws
 pub mod Lists
+pub mod Bytes
+pub mod Encoding
+pub mod Journal
 pub mod Invariant
 pub mod Sound
 pub mod Judged
@@ -27,3 +27,10 @@ pub mod Answered
 pub mod Shown
 pub mod Unaltered
 pub mod Steady
+pub mod Restarts
+pub mod Granted
+pub mod Determined
+pub mod Runs
+pub mod Recorded
+pub mod Demands
+pub mod StandIns

@@ -5,18 +5,15 @@ use mathlib.Core.Bool.{Bool, true, false}
 use mathlib.Core.List.{List, [], _∷_, _++_, map}
 use native.Mathlib.Nat.{le-refl}
 use native.Mathlib.Omega.{arith}
-use lib.ListN.{length, getD}
+use lib.ListN.{length, take, drop, getD}
 use lib.Dec.{ltb, eqb}
 use borrow.Author.Tests.{ltb-true, eqb-true, lt-ltb, eq-eqb}
 use Rattle.model.specs.Lists.{either, anyB, allB, kept, elemB, risingFrom, tab, someBelow}
 use Rattle.model.specs.Store.{page16, someSlot}
+use Rattle.history.specs.Words.{All}
 use Rattle.history.proofs.Laws.{by-test, clash, by-eq, both-yes, split, either-left, either-right, either-none, neither, either-cases, pick-all}
 
 -- ---- a fact of all of a list; strictly ascending
-abbrev pub All : {A : Type 0} → (A → Type 0) → List A → Type 0
-All P [] = Unit {0}
-All P (x ∷ xs) = P x × All P xs
-
 abbrev pub Rising : List ℕ → Type 0
 Rising [] = Unit {0}
 Rising (x ∷ xs) = All (λ y. x < y) xs × Rising xs
@@ -33,6 +30,25 @@ module _ {A : Type 0} where
   pub all-append : (P : A → Type 0) (l m : List A) → All P l → All P m → All P (l ++ m)
   all-append P [] m h k = k
   all-append P (x ∷ xs) m h k = (h .0, all-append P xs m (h .1) k)
+
+  pub all-part : (P : A → Type 0) (l m : List A) → All P (l ++ m) → All P l
+  all-part P [] m h = tt
+  all-part P (x ∷ xs) m h = (h .0, all-part P xs m (h .1))
+
+  pub all-take : (P : A → Type 0) (i : ℕ) (l : List A) → All P l → All P (take i l)
+  all-take P zero l h = tt
+  all-take P (suc i) [] h = tt
+  all-take P (suc i) (x ∷ xs) h = (h .0, all-take P i xs (h .1))
+
+  pub all-drop : (P : A → Type 0) (i : ℕ) (l : List A) → All P l → All P (drop i l)
+  all-drop P zero l h = h
+  all-drop P (suc i) [] h = tt
+  all-drop P (suc i) (x ∷ xs) h = all-drop P i xs (h .1)
+
+  pub all-getD : (P : A → Type 0) (i : ℕ) (l : List A) (d : A) → P d → All P l → P (getD l i d)
+  all-getD P i [] d k h = k
+  all-getD P zero (x ∷ xs) d k h = h .0
+  all-getD P (suc i) (x ∷ xs) d k h = all-getD P i xs d k (h .1)
 
   pub all-kept : (P : A → Type 0) (f : A → Bool) (l : List A) → All P l → All P (kept f l)
   all-kept P f [] h = tt

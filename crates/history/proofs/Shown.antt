@@ -39,6 +39,11 @@ module _ (h : List Change) (g : AllAccepted h) where
       let q : largest time known ≡ s = omega (arith, n .newest (largest time known) (z .told) (z .before), z .newest s (n .told) (n .before)) in
       (q, omega arith)
 
+  -- with a snapshot told at or before a time, there is a newest
+  pub newest-stands : (time u : ℕ) → toldB u h ≡ true → u ≤ time → (s : ℕ) × Newest h time s
+  newest-stands time u t l =
+      (largest time (replay h .snapshots), largest-newest time (largest-stands h g time u (known-told h g u ∙ t) l .0))
+
   module _ (p : ℕ) (buffer : List ℕ) (b : p < 32) (n : length buffer ≡ 16) where
     good-page : readShaped p buffer ≡ true
     good-page = both-yes (lt-ltb p 32 b) (eq-eqb (length buffer) 16 n)

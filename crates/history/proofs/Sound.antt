@@ -13,7 +13,8 @@ use Rattle.model.specs.declared.Seen.{Seen}
 use Rattle.model.specs.Lists.{both, anyB, elemB}
 use Rattle.model.specs.Store.{Copy, Store, pageOf, mark, inSpan, holdsB, beyondB, liveB, Slot, none, some, lookup, Served, unserved, by, oldest, disk, current, spanOr, look, servedOr, asOf}
 use Rattle.history.proofs.Laws.{by-test, clash, by-le, both-yes, both-left, both-right, either-left, either-right, either-none, either-cases}
-use Rattle.history.proofs.Lists.{All, any-elem}
+use Rattle.history.specs.Words.{All}
+use Rattle.history.proofs.Lists.{any-elem}
 use Rattle.history.proofs.Invariant.{neededB, WaitOk, TrueRow, ServedBy, SoundAt}
 
 pub by-slot : {C : Type 0} (x : Slot) → (x ≡ none → C) → ((e : Pending) → x ≡ some e → C) → C

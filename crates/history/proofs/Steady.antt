@@ -17,7 +17,8 @@ use Rattle.model.specs.Judgement.{wellFormed, judge}
 use Rattle.model.specs.Reads.{largest, snapshotRead, clockRead}
 use Rattle.history.specs.History.{replayFrom, replay, AcceptedFrom, AllAccepted, writesSeen, changeSeen, latestFrom, latest, horizonOf, toldB}
 use Rattle.history.proofs.Laws.{by-test, either-left}
-use Rattle.history.proofs.Lists.{All, all-map, kept-test, page-same}
+use Rattle.history.specs.Words.{All}
+use Rattle.history.proofs.Lists.{all-map, kept-test, page-same}
 use Rattle.history.proofs.Judged.{commit-ok, gossip-ok}
 use Rattle.history.proofs.Writes.{writes-same}
 use Rattle.history.proofs.Parts.{accepted-part, replay-parts, latest-append, told-append}

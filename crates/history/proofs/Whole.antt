@@ -9,7 +9,8 @@ use borrow.Author.Tests.{ltb-true}
 use Rattle.model.specs.Lists.{kept}
 use Rattle.model.specs.Store.{Store, liveB, lookup}
 use Rattle.model.specs.Changes.{Write, writeOne, writes, lastAt, commitStore, gossipStore, copiesAfter, ofPage, buried, staysB, flushStore}
-use Rattle.history.proofs.Lists.{All, all-map, all-append, all-kept, kept-test, all-mapped, rising-kept, rising-append}
+use Rattle.history.specs.Words.{All}
+use Rattle.history.proofs.Lists.{all-map, all-append, all-kept, kept-test, all-mapped, rising-kept, rising-append}
 use Rattle.history.proofs.Invariant.{Whole}
 use Rattle.history.proofs.Judged.{CommitOk, GossipOk}
 use Rattle.history.proofs.Writes.{single-put, put-objects, displaced-objects}

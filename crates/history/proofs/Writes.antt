@@ -10,7 +10,8 @@ use Rattle.model.specs.Lists.{anyB, addIf}
 use Rattle.model.specs.Store.{Store, liveB, Slot, none, some, lookup}
 use Rattle.model.specs.Changes.{Write, put, closed, displaced, writeOne, writes}
 use Rattle.history.proofs.Laws.{by-test, clash, either-none}
-use Rattle.history.proofs.Lists.{All, all-append, any-append}
+use Rattle.history.specs.Words.{All}
+use Rattle.history.proofs.Lists.{all-append, any-append}
 use Rattle.history.proofs.Invariant.{Single}
 
 -- ---- the entries after a write

@@ -1,2 +1,5 @@
-pub mod History
 pub mod Words
+pub mod History
+pub mod Runs
+pub mod Demands
+pub mod StandIns

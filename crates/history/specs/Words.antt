@@ -8,10 +8,13 @@ use Rattle.model.specs.Changes.{Change, commit, gossip, flush}
 use Rattle.model.specs.Judgement.{wellFormed}
 use Rattle.model.specs.Records.{encode}
 
--- every number of the list is below n
+-- a fact of all of a list
+abbrev pub All : {A : Type 0} → (A → Type 0) → List A → Type 0
+All P [] = Unit {0}
+All P (x ∷ xs) = P x × All P xs
+
 abbrev pub Below : ℕ → List ℕ → Type 0
-Below n [] = Unit {0}
-Below n (x ∷ xs) = (x < n) × Below n xs
+Below n xs = All (λ x. x < n) xs
 
 abbrev pub Bytes : List ℕ → Type 0
 Bytes bs = Below 256 bs
