@@ -1,0 +1,198 @@
+-- What the tests of damage find, by the model's definitions: objects met again, a chain of tests, and the counts.
+use Prim.Native.Nat.{ℕ, zero, suc, _+_, _<_, _≤_}
+use mathlib.Core.Path.{_≡_, refl, ap, _∙_, sym}
+use mathlib.Core.Bool.{Bool, true, false, not}
+use mathlib.Core.List.{List, [], _∷_, map}
+use native.Mathlib.Numerals.{add-one}
+use native.Mathlib.Omega.{arith}
+use lib.ListN.{length, take, drop, getD, set, replicate, length-map, List·getD-map, drop-of-length-le}
+use lib.Seq.{length-take-le, drop-cons, getD-take, getD-set-same, getD-set-other}
+use lib.Dec.{ltb, leb, eqb}
+use borrow.Author.Tests.{eqb-true, eqb-false, ltb-false, leb-true, leb-false, lt-ltb, le-ltb}
+use Rattle.model.specs.declared.Pending.{Pending}
+use Rattle.model.specs.Lists.{both, either, anyB, allB, elemB, twiceB}
+use Rattle.model.specs.Damage.{overfull, misnumbered, doubled, misordered, damaged}
+use Rattle.rules.proofs.Laws.{within}
+use Rattle.tables.specs.declared.Heads.{Heads}
+use Rattle.tables.specs.Rows.{pendingOf, pastOf, pendings, pasts, copyHeads, copiesOf, pendingAt}
+use Rattle.tables.specs.Contents.{contents, Counted}
+use Rattle.tables.proofs.Cases.{by-test, clash}
+use Rattle.tables.proofs.Copies.{noCopy, copies-of-length}
+use Rattle.tables.proofs.Counts.{up-to-take, up-to-length}
+
+-- ---- a chain of tests
+pub hit : {a : Bool} (b : Bool) → a ≡ true → true ≡ either a b
+hit b e = rw e
+
+pub pass : {a b r : Bool} → a ≡ false → r ≡ b → r ≡ either a b
+pass e g = rw e g
+
+either-left : (a b : Bool) → either a b ≡ false → a ≡ false
+either-left true b e = e
+either-left false b e = refl
+
+either-right : (a b : Bool) → either a b ≡ false → b ≡ false
+either-right true b e = clash e
+either-right false b e = e
+
+either-swap : (a b c d : Bool) → either (either a b) (either c d) ≡ either (either a c) (either b d)
+either-swap true b c d = refl
+either-swap false true true d = refl
+either-swap false true false d = refl
+either-swap false false c d = refl
+
+either-turn : (a b c : Bool) → either a (either b c) ≡ either (either b a) c
+either-turn true true c = refl
+either-turn true false c = refl
+either-turn false true c = refl
+either-turn false false c = refl
+
+either-flat : (a b c d : Bool) → either (either a (either b c)) d ≡ either a (either b (either c d))
+either-flat true b c d = refl
+either-flat false true c d = refl
+either-flat false false c d = refl
+
+-- where none passes, the one at i does not
+any-at : {A : Type 0} (f : A → Bool) (n : ℕ) (l : List A) (i : ℕ) (d : A) → i < n → n ≤ length l → anyB f (take n l) ≡ false → f (getD l i d) ≡ false
+any-at f zero l i d h k e = absurd (omega arith)
+any-at f (suc n) [] i d h k e = absurd (omega arith)
+any-at f (suc n) (x ∷ xs) zero d h k e = either-left (f x) (anyB f (take n xs)) e
+any-at f (suc n) (x ∷ xs) (suc i) d h k e = any-at f n xs i d (omega arith) (omega arith) (either-right (f x) (anyB f (take n xs)) e)
+
+-- ---- objects met again: seen marks those met before
+abbrev pub again : List Bool → List ℕ → Bool
+again seen os = either (anyB (λ o. getD seen o false) os) (twiceB os)
+
+module _ (seen : List Bool) (o : ℕ) (h : o < length seen) where
+  mark-at : (x : ℕ) → getD (set seen o true) x false ≡ either (eqb x o) (getD seen x false)
+  mark-at x =
+      by-test (eqb x o)
+      (λ t. rw (t, eqb-true x o t) (getD-set-same seen o true false h))
+      (λ t. rw t (getD-set-other seen o x true false (eqb-false x o t)))
+
+  mark-any : (os : List ℕ) → anyB (λ x. getD (set seen o true) x false) os ≡ either (elemB o os) (anyB (λ x. getD seen x false) os)
+  mark-any [] = refl
+  mark-any (x ∷ xs) = rw (mark-at x, mark-any xs) (either-swap (eqb x o) (getD seen x false) (elemB o xs) (anyB (λ x. getD seen x false) xs))
+
+  mark-again : (os : List ℕ) → getD seen o false ≡ false → again (set seen o true) os ≡ again seen (o ∷ os)
+  mark-again os e = rw (e, mark-any os) (sym (either-turn (anyB (λ x. getD seen x false) os) (elemB o os) (twiceB os)))
+
+-- at the start none is marked
+pub unmarked : (n o : ℕ) → getD (replicate n false) o false ≡ false
+unmarked zero o = refl
+unmarked (suc n) zero = refl
+unmarked (suc n) (suc o) = unmarked n o
+
+pub again-start : (seen : List Bool) → ((o : ℕ) → getD seen o false ≡ false) → (os : List ℕ) → again seen os ≡ twiceB os
+again-start seen h os = rw (none os)
+  where
+    none : (os : List ℕ) → anyB (λ o. getD seen o false) os ≡ false
+    none [] = refl
+    none (x ∷ xs) = rw (h x, none xs)
+
+-- what a turn at i finds, and the end, over the objects of the first n entries
+abbrev pub objectsOf : ℕ → List Pending → List ℕ
+objectsOf n es = map (λ e. e .object) (take n es)
+
+pub record Turn (n : ℕ) (es : List Pending) (i : ℕ) (e : Pending) : Type 0 where
+  pub rows : n ≤ length es
+  pub inside : i < n
+  pub entry : e ≡ pendingAt es i
+
+objects-length : (n : ℕ) (es : List Pending) → n ≤ length es → length (objectsOf n es) ≡ n
+objects-length n es l = length-map (take n es) (λ e. e .object) ∙ length-take-le n es l
+
+module _ {n : ℕ} {es : List Pending} {i : ℕ} {e : Pending} (t : Turn n es i e) where
+  object-at : getD (objectsOf n es) i 0 ≡ e .object
+  object-at =
+      List·getD-map (λ (e : Pending). e .object) (take n es) i (pendingOf [])
+      ∙ ap (λ e. e .object) (getD-take n es i (pendingOf []) (t .inside) ∙ sym (t .entry))
+
+  objects-cons : drop i (objectsOf n es) ≡ e .object ∷ drop (suc i) (objectsOf n es)
+  objects-cons = rw (← object-at) (drop-cons (objectsOf n es) i 0 (rw (objects-length n es (t .rows)) (t .inside)))
+
+  pub object-low : anyB (λ (e : Pending). leb 512 (e .object)) (take n es) ≡ false → e .object < 512
+  object-low o = leb-false 512 (e .object) (rw (t .entry) (any-at (λ (e : Pending). leb 512 (e .object)) n es i (pendingOf []) (t .inside) (t .rows) o))
+
+  pub again-met : (seen : List Bool) → getD seen (e .object) false ≡ true → again seen (drop i (objectsOf n es)) ≡ true
+  again-met seen m = rw (objects-cons, m)
+
+  pub again-new : (seen : List Bool) → e .object < length seen → getD seen (e .object) false ≡ false
+      → again (set seen (e .object) true) (drop (i + 1) (objectsOf n es)) ≡ again seen (drop i (objectsOf n es))
+  again-new seen g m = rw (add-one, objects-cons) (mark-again seen (e .object) g (drop (suc i) (objectsOf n es)) m)
+
+pub again-end : (n : ℕ) (es : List Pending) → n ≤ length es → (seen : List Bool) (i : ℕ) → n ≤ i → again seen (drop i (objectsOf n es)) ≡ false
+again-end n es l seen i h = let g : length (objectsOf n es) ≤ i = rw (objects-length n es l) h in rw (drop-of-length-le (objectsOf n es) g)
+
+-- ---- snapshots out of order: some test of `ascending_within` fails
+not-both : (a b : Bool) → either (not a) (not b) ≡ not (both a b)
+not-both true b = refl
+not-both false b = refl
+
+leb-not : (a b : ℕ) → ltb b a ≡ not (leb a b)
+leb-not a b = by-test (leb a b) (λ t. rw t (le-ltb b a (leb-true a b t))) (λ t. rw t (lt-ltb b a (leb-false a b t)))
+
+any-beyond : (h : ℕ) (l : List ℕ) → anyB (ltb h) l ≡ not (allB (λ s. leb s h) l)
+any-beyond h [] = refl
+any-beyond h (x ∷ xs) = rw (leb-not x h, any-beyond h xs) (not-both (leb x h) (allB (λ s. leb s h) xs))
+
+-- ---- the counts
+abbrev pub overCount : Heads → Bool
+overCount h = either (ltb 128 (h .pending)) (either (ltb 256 (h .past)) (either (ltb 64 (h .snapshots)) (ltb 128 (h .copies))))
+
+none-of : (a b c d : Bool) → either a (either b (either c d)) ≡ false → (a ≡ false) × (b ≡ false) × (c ≡ false) × (d ≡ false)
+none-of a b c d e =
+    let f = either-right a (either b (either c d)) e in
+    let g = either-right b (either c d) f in
+    (either-left a (either b (either c d)) e, either-left b (either c d) f, either-left c d g, either-right c d g)
+
+pub counted : (h : Heads) → overCount h ≡ false → Counted h
+counted h e =
+    let f = none-of (ltb 128 (h .pending)) (ltb 256 (h .past)) (ltb 64 (h .snapshots)) (ltb 128 (h .copies)) e in
+    record {
+      pending-count = ltb-false 128 (h .pending) (f .0);
+      past-count = ltb-false 256 (h .past) (f .1);
+      snapshot-count = ltb-false 64 (h .snapshots) (f .2);
+      copy-count = ltb-false 128 (h .copies) (f .3);
+    }
+
+-- ---- the whole: where the counts are within their limits, the tests that are left
+abbrev pub tested : List (List ℕ) → List (List ℕ) → List ℕ → List (List ℕ) → List ℕ → Heads → Bool
+tested pending past snapshots copies copied h =
+    either (anyB (λ e. leb 512 (e .object)) (take (h .pending) (pendings pending)))
+    (either (anyB (λ q. leb 512 (q .object)) (take (h .past) (pasts past)))
+    (either (anyB (λ c. leb 32 (c .page)) (take (h .copies) (copiesOf (copyHeads copies) copied)))
+    (either (twiceB (objectsOf (h .pending) (pendings pending))) (not (within 0 (h .horizon) (take (h .snapshots) snapshots))))))
+
+module _ (values stamps : List ℕ) (pending past : List (List ℕ)) (snapshots : List ℕ) (copies : List (List ℕ)) (copied : List ℕ) (h : Heads) where
+  over-is : overCount h ≡ overfull (contents values stamps pending past snapshots copies copied h)
+  unfolding overfull
+  over-is =
+      rw (
+        up-to-length (pendingOf []) (h .pending) (pendings pending),
+        up-to-length (pastOf []) (h .past) (pasts past),
+        up-to-length 0 (h .snapshots) snapshots,
+        up-to-length noCopy (h .copies) (copiesOf (copyHeads copies) copied),
+      )
+
+  pub damaged-over : overCount h ≡ true → true ≡ damaged (contents values stamps pending past snapshots copies copied h)
+  unfolding damaged
+  damaged-over e = hit _ (sym over-is ∙ e)
+
+  pub damaged-is : length (pendings pending) ≡ 128 → length (pasts past) ≡ 256 → length snapshots ≡ 64 → length (copyHeads copies) ≡ 128 → overCount h ≡ false
+      → tested pending past snapshots copies copied h ≡ damaged (contents values stamps pending past snapshots copies copied h)
+  unfolding damaged misnumbered doubled misordered
+  damaged-is p q s k e =
+      let c : Counted h = counted h e in
+      let w : h .copies ≤ length (copiesOf (copyHeads copies) copied) = rw (copies-of-length (copyHeads copies) copied) (omega arith) in
+      rw (
+        ← over-is,
+        e,
+        up-to-take (pendingOf []) (h .pending) (pendings pending) (omega arith),
+        up-to-take (pastOf []) (h .past) (pasts past) (omega arith),
+        up-to-take 0 (h .snapshots) snapshots (omega arith),
+        up-to-take noCopy (h .copies) (copiesOf (copyHeads copies) copied) w,
+        any-beyond,
+        not-both,
+        either-flat,
+      )

@@ -1,0 +1,11 @@
+pub mod Cases
+pub mod Rows
+pub mod Searches
+pub mod Backward
+pub mod Copies
+pub mod Marks
+pub mod Oldest
+pub mod Living
+pub mod Keeping
+pub mod Counts
+pub mod Bridges

@@ -1,0 +1,24 @@
+-- The row read is the list's copy head at the index.
+use borrow.Author.Needs.{needs}
+use Rattle.tables.proofs.Rows.{copy-read}
+use Rattle.tables.proofs.copy_at.Statement.{statement}
+use Rattle.tables.proofs.copy_at.Tie as tie
+
+mul-row : tie.Need-mul-row
+mul-row c = search needs
+
+element-copy-out-row : tie.Need-element-copy-out-row
+element-copy-out-row c = search needs
+
+array-read-t10 : tie.Need-array-read-t10
+array-read-t10 c = search needs
+
+array-read-t13 : tie.Need-array-read-t13
+array-read-t13 c = search needs
+
+returns : tie.Need-returns
+returns c = copy-read _ _
+
+pub copy-at-spec : {M : Type 1} → statement M
+copy-at-spec =
+    tie.close (tie.spec mul-row element-copy-out-row array-read-t10 array-read-t13 returns)

@@ -1,0 +1,55 @@
+-- What the searches answer, by the model's definitions.
+use Prim.Native.Nat.{ℕ, suc, _<_}
+use mathlib.Core.Path.{_≡_}
+use mathlib.Core.Bool.{Bool, true, false, not}
+use mathlib.Core.List.{List, [], _∷_}
+use lib.ListN.{getD, take}
+use lib.Dec.{ltb, eqb}
+use Rattle.model.specs.declared.Pending.{Pending}
+use Rattle.model.specs.declared.Past.{Past}
+use Rattle.model.specs.Limits.{pages}
+use Rattle.model.specs.Lists.{both, either, anyB}
+use Rattle.model.specs.Store.{Copy, Served, unserved, by, oldest, pageOf, inSpan, beyondB}
+use Rattle.tables.specs.declared.CopyHead.{CopyHead}
+use Rattle.tables.specs.declared.Found.{Found}
+use Rattle.tables.specs.declared.Found.the-variants.{At, Nothing}
+use Rattle.tables.specs.Rows.{copiesOf}
+
+abbrev pub pickFound : Bool → Found → Found → Found
+pickFound true a b = a
+pickFound false a b = b
+
+-- the index of the first row that passes, counted from k
+abbrev pub firstAt : {A : Type 0} → (A → Bool) → List A → ℕ → Found
+firstAt f [] k = Nothing
+firstAt f (x ∷ xs) k = pickFound (f x) (At k) (firstAt f xs (suc k))
+
+abbrev pub findPending : ℕ → List Pending → Found
+findPending o es = firstAt (λ e. eqb (e .object) o) es 0
+
+-- the copy that an index names
+abbrev pub servedAt : Found → List Copy → Served
+servedAt Nothing cs = unserved
+servedAt (At i) cs = by (getD cs i (record { page = 0; stamp = 0; values = [] }))
+
+abbrev pub Within : Found → ℕ → Type 0
+Within Nothing n = Unit {0}
+Within (At i) n = i < n
+
+-- the index of the copy that serves s, among n copies whatever words they hold
+pub record Serving (p s n : ℕ) (heads : List CopyHead) (f : Found) : Type 0 where
+  pub copy : (words : List ℕ) → servedAt f (copiesOf heads words) ≡ oldest p s (take n (copiesOf heads words))
+  pub inside : Within f n
+
+-- a known snapshot in the row's span, beyond a mark
+abbrev pub wantedB : List ℕ → ℕ → Past → Bool
+wantedB known m q = anyB (λ s. both (inSpan s q) (ltb m s)) known
+
+-- a row is judged where the scope is its page, or 32 for every page; the marks stand by page number
+abbrev pub inScope : ℕ → Past → Bool
+inScope scope q = either (eqb scope pages) (eqb (pageOf (q .object)) scope)
+
+-- a row stays where it is not judged, or is live
+abbrev pub staysBy : ℕ → ℕ → List ℕ → List ℕ → Past → Bool
+staysBy scope h known marks q =
+    either (not (inScope scope q)) (either (beyondB h q) (wantedB known (getD marks (pageOf (q .object)) 0) q))
