@@ -1,0 +1,5 @@
+pub mod Ahead
+pub mod Comparing
+pub mod Saying
+pub mod Judged
+pub mod Applying

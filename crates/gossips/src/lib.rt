@@ -1,0 +1,169 @@
+// A gossip message without its journal: judged over the tables, then written to them. Restart uses both as they stand.
+use model::Answer;
+use model::Verdict;
+use tables::CopyTable;
+use tables::Heads;
+use tables::PastTable;
+use tables::Snapshots;
+ghost use mathlib.Core.Path.{_≡_};
+ghost use mathlib.Core.List.{List};
+ghost use Prim.Native.Nat.{ℕ, _+_, _≤_, min};
+ghost use lib.ListN.{length, take};
+ghost use lib.Dec.{ltb, leb};
+ghost use Rattle.model.specs.Lists.{both, kept};
+ghost use Rattle.model.specs.Judgement.{compared, judgeGossip};
+ghost use Rattle.tables.specs.Contents.{contents};
+ghost use Rattle.gossips.specs.Promises.{comparedAs, Skipped, Added, Ready, Applied};
+
+// How a message's stamps stand against the known snapshots.
+pub enum Compared {
+    Same,
+    Differ(u64),
+}
+
+// The smaller of two stamps.
+fn smaller(a: u64, b: u64) -> u64
+    ensures { λ r. ⌜ r ≡ min a b ⌝ }
+{
+    if a <= b { a } else { b }
+}
+
+// A known snapshot that the message speaks of: beyond prev, up to a bound.
+fn spoken(s: u64, prev: u64, upto: u64) -> bool
+    ensures { λ r. ⌜ r ≡ both (ltb prev s) (leb s upto) ⌝ }
+{
+    if prev < s { s <= upto } else { false }
+}
+
+// The index from i on of the first stamp up to a bound, or the length.
+fn skip(stamps: &[u64], upto: u64, i: usize) -> usize
+    requires { ⌜ i ≤ length (now stamps) ⌝ }
+    ensures { λ r. ⌜ Skipped (now (stamps .entry)) upto i r ⌝ }
+{
+    let mut k = i;
+    while k < stamps.len() {
+        if stamps[k] <= upto {
+            return k;
+        }
+        k += 1;
+    }
+    k
+}
+
+// The message's stamps up to a bound against the known ones beyond prev up to there.
+fn compare(snapshots: &Snapshots, known: usize, prev: u64, upto: u64, stamps: &[u64]) -> Compared
+    requires { ⌜ (known ≤ 64) × (length (now snapshots) ≡ 64) ⌝ }
+    ensures { λ r. ⌜ r ≡ comparedAs (compared (kept (λ s. leb s upto) (now (stamps .entry))) (kept (λ s. both (ltb prev s) (leb s upto)) (take known (now (snapshots .entry))))) ⌝ }
+{
+    let mut i: usize = 0;
+    let mut j: usize = 0;
+    while j < known {
+        let y = snapshots[j];
+        j += 1;
+        if spoken(y, prev, upto) {
+            i = skip(stamps, upto, i);
+            if i == stamps.len() {
+                return Compared::Differ(y);
+            }
+            let x = stamps[i];
+            if x != y {
+                return Compared::Differ(smaller(x, y));
+            }
+            i += 1;
+        }
+    }
+    i = skip(stamps, upto, i);
+    if i < stamps.len() {
+        return Compared::Differ(stamps[i]);
+    }
+    Compared::Same
+}
+
+// How many stamps lie beyond the horizon.
+fn count_beyond(stamps: &[u64], horizon: u64) -> usize
+    ensures { λ r. ⌜ r ≡ length (kept (ltb horizon) (now (stamps .entry))) ⌝ }
+{
+    let mut n: usize = 0;
+    let mut i: usize = 0;
+    while i < stamps.len() {
+        let s = stamps[i];
+        i += 1;
+        if horizon < s {
+            n += 1;
+        }
+    }
+    n
+}
+
+// What the store says of the message: Gap, Conflict, nothing new, Snapshots full, or accepted.
+pub fn judge_gossip(
+    snapshots: &Snapshots,
+    h: Heads,
+    prev: u64,
+    curr: u64,
+    stamps: &[u64],
+) -> Verdict
+    requires { ⌜ (length (now snapshots) ≡ 64) × (h .snapshots ≤ 64) × (length (now stamps) ≤ 16) ⌝ }
+    ensures { λ r. ⌜ ((disk dated : List ℕ) (pending past copies : List (List ℕ)) (copied : List ℕ) → r ≡ judgeGossip (contents disk dated pending past (now (snapshots .entry)) copies copied h) prev curr (now (stamps .entry))) ⌝ }
+{
+    if h.horizon < prev {
+        return Verdict::Refused(Answer::Gap(h.horizon));
+    }
+    let upto = smaller(curr, h.horizon);
+    match compare(snapshots, h.snapshots, prev, upto, stamps) {
+        Compared::Differ(s) => Verdict::Refused(Answer::Conflict(s)),
+        Compared::Same => {
+            if curr <= h.horizon {
+                return Verdict::Idle;
+            }
+            if 64 - h.snapshots < count_beyond(stamps, h.horizon) {
+                return Verdict::Refused(Answer::SnapshotsFull);
+            }
+            Verdict::Accepted
+        }
+    }
+}
+
+// Writes the stamps beyond the horizon behind the first n snapshots; the result is the new count.
+fn add_known(snapshots: &mut Snapshots, n: usize, horizon: u64, stamps: &[u64]) -> usize
+    requires { ⌜ (length (now snapshots) ≡ 64) × (n + length (kept (ltb horizon) (now stamps)) ≤ 64) ⌝ }
+    ensures { λ r. ⌜ Added (now (snapshots .entry)) (now (snapshots .exit)) n r horizon (now (stamps .entry)) ⌝ }
+{
+    let mut k = n;
+    let mut i: usize = 0;
+    while i < stamps.len() {
+        let stamp = stamps[i];
+        i += 1;
+        if horizon < stamp {
+            snapshots[k] = stamp;
+            k += 1;
+        }
+    }
+    k
+}
+
+// Stamps beyond the horizon become known, the horizon moves, and dead past values go.
+pub fn apply_gossip(
+    past: &mut PastTable,
+    snapshots: &mut Snapshots,
+    copies: &CopyTable,
+    h: Heads,
+    curr: u64,
+    stamps: &[u64],
+) -> Heads
+    requires { ⌜ Ready (now past) (now snapshots) (now copies) h (now stamps) ⌝ }
+    ensures { λ r. ⌜ Applied (now (past .entry)) (now (past .exit)) (now (snapshots .entry)) (now (snapshots .exit)) (now (copies .entry)) h r curr (now (stamps .entry)) ⌝ }
+{
+    let known = add_known(snapshots, h.snapshots, h.horizon, stamps);
+    let mut marks = [0u64; 32];
+    tables::lookups::marks_of(copies, h.copies, &mut marks);
+    let rows = tables::dropping::drop_dead(past, h.past, 32, curr, snapshots, known, &marks);
+    Heads {
+        pending: h.pending,
+        past: rows,
+        snapshots: known,
+        copies: h.copies,
+        horizon: curr,
+        last: h.last,
+    }
+}
