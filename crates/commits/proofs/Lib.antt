@@ -1,0 +1,7 @@
+pub mod Distinct
+pub mod Growth
+pub mod Counting
+pub mod Finding
+pub mod OneWrite
+pub mod Writing
+pub mod Judged

@@ -1,0 +1,5 @@
+pub mod Pages
+pub mod Laying
+pub mod Slots
+pub mod Words
+pub mod Looks

@@ -1,0 +1,130 @@
+// A page looked at through the tables: sixteen words over which first the past values and then the pending entries are laid.
+use model::Past;
+use model::Pending;
+use tables::Disk;
+use tables::Heads;
+use tables::PastTable;
+use tables::PendingTable;
+ghost use mathlib.Core.Path.{_≡_};
+ghost use mathlib.Core.List.{List};
+ghost use Prim.Native.Nat.{ℕ, _≤_, _+_};
+ghost use lib.ListN.{length, take, drop, getD};
+ghost use Rattle.model.specs.Store.{page16, objectAt, slotOf, pendingSeen, pastSeen};
+ghost use Rattle.tables.specs.Rows.{pendings, pasts};
+ghost use Rattle.tables.specs.Contents.{contents};
+ghost use Rattle.views.specs.Views.{partOf, viewed, coversB, showsB, lay, Lookable};
+
+// What is asked of a page: as of a stamp or current, and the values or their ages, which are the stamps that wrote them.
+pub struct View {
+    pub page: u64,
+    pub current: bool,
+    pub stamp: u64,
+    pub ages: bool,
+}
+
+// Sixteen words from a place on.
+pub fn sixteen(words: &[u64], at: usize, out: &mut [u64])
+    requires { ⌜ (at + 16 ≤ length (now words)) × (length (now out) ≡ 16) ⌝ }
+    ensures { λ _. ⌜ now (out .exit) ≡ take 16 (drop at (now (words .entry))) ⌝ }
+{
+    let mut k: usize = 0;
+    while k < 16 {
+        out[k] = words[at + k];
+        k += 1;
+    }
+}
+
+fn covers(q: Past, v: View) -> bool
+    ensures { λ r. ⌜ r ≡ coversB v q ⌝ }
+{
+    if q.object / 16 == v.page {
+        if q.from <= v.stamp {
+            v.stamp < q.until
+        } else {
+            false
+        }
+    } else {
+        false
+    }
+}
+
+fn shows(e: Pending, v: View) -> bool
+    ensures { λ r. ⌜ r ≡ showsB v e ⌝ }
+{
+    if e.object / 16 == v.page {
+        if v.current { true } else { e.latest <= v.stamp }
+    } else {
+        false
+    }
+}
+
+fn part(ages: bool, value: u64, stamp: u64) -> u64
+    ensures { λ r. ⌜ r ≡ partOf ages (record { value = value; stamp = stamp }) ⌝ }
+{
+    if ages { stamp } else { value }
+}
+
+// From the last row to the first, so that the first that covers stays.
+fn lay_past(t: &PastTable, n: usize, v: View, out: &mut [u64])
+    requires { ⌜ (n ≤ 256) × (length (pasts (now t)) ≡ 256) × (length (now out) ≡ 16) ⌝ }
+    ensures { λ _. ⌜ now (out .exit) ≡ lay (coversB v) (λ q. slotOf (q .object)) (λ q. partOf (v .ages) (pastSeen q)) (take n (pasts (now (t .entry)))) (now (out .entry)) ⌝ }
+{
+    let mut i = n;
+    while 0 < i {
+        i -= 1;
+        let q = tables::past_at(t, i);
+        if covers(q, v) {
+            let slot = (q.object % 16) as usize;
+            out[slot] = part(v.ages, q.value, q.from);
+        }
+    }
+}
+
+fn lay_pending(t: &PendingTable, n: usize, v: View, out: &mut [u64])
+    requires { ⌜ (n ≤ 128) × (length (pendings (now t)) ≡ 128) × (length (now out) ≡ 16) ⌝ }
+    ensures { λ _. ⌜ now (out .exit) ≡ lay (showsB v) (λ e. slotOf (e .object)) (λ e. partOf (v .ages) (pendingSeen e)) (take n (pendings (now (t .entry)))) (now (out .entry)) ⌝ }
+{
+    let mut i = n;
+    while 0 < i {
+        i -= 1;
+        let e = tables::pending_at(t, i);
+        if shows(e, v) {
+            let slot = (e.object % 16) as usize;
+            out[slot] = part(v.ages, e.value, e.latest);
+        }
+    }
+}
+
+// The page's sixteen words on disk.
+fn lay_disk(disk: &Disk, dated: &Disk, v: View, out: &mut [u64])
+    requires { ⌜ (length (now disk) ≡ 512) × (length (now dated) ≡ 512) × (v .page + 1 ≤ 32) × (length (now out) ≡ 16) ⌝ }
+    ensures { λ _. ⌜ now (out .exit) ≡ page16 (λ k. partOf (v .ages) (record { value = getD (now (disk .entry)) (objectAt (v .page) k) 0; stamp = getD (now (dated .entry)) (objectAt (v .page) k) 0 })) ⌝ }
+{
+    let at = 16 * (v.page as usize);
+    if v.ages {
+        sixteen(dated, at, out);
+    } else {
+        sixteen(disk, at, out);
+    }
+}
+
+// The page as the view asks, where no copy serves.
+pub fn look_at(
+    disk: &Disk,
+    dated: &Disk,
+    pending: &PendingTable,
+    past: &PastTable,
+    h: Heads,
+    v: View,
+    out: &mut [u64],
+)
+    requires { ⌜ Lookable (now disk) (now dated) (now pending) (now past) h (v .page) ⌝ }
+    requires { ⌜ length (now out) ≡ 16 ⌝ }
+    ensures { λ _. ⌜ ((snapshots : List ℕ) (copies : List (List ℕ)) (copied : List ℕ) → now (out .exit) ≡ page16 (λ k. viewed (contents (now (disk .entry)) (now (dated .entry)) (now (pending .entry)) (now (past .entry)) snapshots copies copied h) v (objectAt (v .page) k))) ⌝ }
+{
+    lay_disk(disk, dated, v, out);
+    if !v.current {
+        lay_past(past, h.past, v, out);
+    }
+    lay_pending(pending, h.pending, v, out);
+}
