@@ -1,0 +1,81 @@
+-- The reads' answers, in the model's order of the tests, each with what it leaves in the buffer.
+use Prim.Native.Nat.{ℕ, _*_, _≤_, _<_}
+use mathlib.Core.Path.{_≡_, refl, sym}
+use mathlib.Core.Bool.{Bool, true, false}
+use mathlib.Core.List.{List}
+use lib.ListN.{length}
+use lib.Dec.{ltb}
+use borrow.Author.Tests.{ltb-true, eqb-true, lt-ltb, le-ltb, le-leb, lt-leb, eq-eqb, ne-eqb}
+use Rattle.model.specs.declared.Answer.{Answer}
+use Rattle.model.specs.declared.Answer.the-variants.{Done, Damaged, Shape, Ahead, NoSnapshot}
+use Rattle.model.specs.Limits.{lastTick}
+use Rattle.model.specs.Store.{Store, page16, objectAt, current, pageAsOf, pageNow}
+use Rattle.model.specs.Damage.{damaged}
+use Rattle.model.specs.Reads.{readShaped, largest, snapshotAnswer, readAt, clockRead, currentRead}
+use Rattle.tables.proofs.Cases.{by-test, clash}
+use Rattle.reads.specs.Read.{Read}
+
+pub shaped-is : (p : ℕ) (buffer : List ℕ) → readShaped p buffer ≡ true → (p < 32) × (length buffer ≡ 16)
+shaped-is p buffer e =
+    by-test (ltb p 32)
+    (λ t. (ltb-true p 32 t, eqb-true (length buffer) 16 (rw t at e)))
+    (λ t. clash (sym (rw t at e)))
+
+-- ---- as of a time: where no test before the horizon's fails, it is the snapshots that answer
+pub record Ready (st : Store) (good : Bool) (p : ℕ) (buffer : List ℕ) : Type 0 where
+  pub whole : damaged st ≡ false
+  pub asked : good ≡ true
+  pub shaped : readShaped p buffer ≡ true
+
+module _ (st : Store) (good : Bool) (time p : ℕ) (buffer : List ℕ) where
+  pub read-damaged : damaged st ≡ true → Read (readAt st good time p buffer) Damaged buffer
+  unfolding readAt snapshotAnswer
+  read-damaged d = rw d (record { answered = refl; filled = refl })
+
+  pub read-bad : damaged st ≡ false → good ≡ false → Read (readAt st good time p buffer) Shape buffer
+  unfolding readAt snapshotAnswer
+  read-bad d g = rw (d, g) (record { answered = refl; filled = refl })
+
+  pub read-misshaped : damaged st ≡ false → good ≡ true → readShaped p buffer ≡ false → Read (readAt st good time p buffer) Shape buffer
+  unfolding readAt snapshotAnswer
+  read-misshaped d g r = rw (d, g, r) (record { answered = refl; filled = refl })
+
+module _ {st : Store} {good : Bool} {p : ℕ} {buffer : List ℕ} (r : Ready st good p buffer) (time : ℕ) where
+  pub read-ahead : st .horizon < time → Read (readAt st good time p buffer) (Ahead (st .horizon)) buffer
+  unfolding readAt snapshotAnswer
+  read-ahead h = rw (r .whole, r .asked, r .shaped, lt-ltb (st .horizon) time h) (record { answered = refl; filled = refl })
+
+  module _ (h : time ≤ st .horizon) {s : ℕ} (e : s ≡ largest time (st .snapshots)) where
+    pub read-none : s ≡ 0 → Read (readAt st good time p buffer) NoSnapshot buffer
+    unfolding readAt snapshotAnswer
+    read-none z =
+        rw (r .whole, r .asked, r .shaped, le-ltb (st .horizon) time h, ← e, eq-eqb s 0 z) (record { answered = refl; filled = refl })
+
+    pub read-done : (s ≡ 0 → ⊥) → {left : List ℕ} → left ≡ pageAsOf st p s → Read (readAt st good time p buffer) (Done s) left
+    unfolding readAt snapshotAnswer
+    read-done z f =
+        rw (r .whole, r .asked, r .shaped, le-ltb (st .horizon) time h, ← e, ne-eqb s 0 z) (record { answered = refl; filled = f })
+
+-- ---- at a clock tick: beyond the last, the time does not matter
+module _ (st : Store) (tick p : ℕ) (buffer : List ℕ) {a : Answer} {left : List ℕ} where
+  pub clock-in : tick ≤ lastTick → Read (readAt st true (256 * tick) p buffer) a left → Read (clockRead st tick p buffer) a left
+  clock-in h v = rw (le-leb tick lastTick h) v
+
+  pub clock-beyond : lastTick < tick → Read (readAt st false 0 p buffer) a left → Read (clockRead st tick p buffer) a left
+  unfolding readAt snapshotAnswer
+  clock-beyond h v = rw (lt-leb tick lastTick h) v
+
+-- ---- as it is now
+module _ (st : Store) (p : ℕ) (buffer : List ℕ) where
+  pub now-damaged : damaged st ≡ true → Read (currentRead st p buffer) Damaged buffer
+  unfolding currentRead
+  now-damaged d = rw d (record { answered = refl; filled = refl })
+
+  module _ (d : damaged st ≡ false) where
+    pub now-misshaped : readShaped p buffer ≡ false → Read (currentRead st p buffer) Shape buffer
+    unfolding currentRead
+    now-misshaped r = rw (d, r) (record { answered = refl; filled = refl })
+
+    pub now-done : readShaped p buffer ≡ true → {left : List ℕ} → left ≡ page16 (λ k. current st (objectAt p k) .value) → Read (currentRead st p buffer) (Done 0) left
+    unfolding currentRead pageNow
+    now-done r f = rw (d, r) (record { answered = refl; filled = f })

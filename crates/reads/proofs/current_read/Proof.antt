@@ -1,0 +1,82 @@
+-- Each test that fails settles the answer; past them both the tables show the page as it is now.
+use mathlib.Core.Path.{_≡_, sym, _∙_}
+use mathlib.Core.Bool.{true, false}
+use borrow.Author.Needs.{needs}
+use borrow.Author.Tests.{not-true, not-false}
+use Rattle.model.specs.Store.{Store}
+use Rattle.model.specs.Damage.{damaged}
+use Rattle.model.specs.Reads.{readShaped}
+use Rattle.tables.specs.Contents.{contents}
+use Rattle.reads.proofs.Undamaged.{lookable}
+use Rattle.reads.proofs.Answers.{shaped-is, now-damaged, now-misshaped, now-done}
+use Rattle.reads.proofs.current_read.Statement.{statement}
+use Rattle.reads.proofs.current_read.Tie as tie
+
+abbrev start : tie.After-damaged → tie.Start
+start c = c .before .before .before .before .before .before .before .before .before .before
+
+abbrev held : tie.After-damaged → Store
+held c =
+    let a = start c .args in
+    contents (a .disk .now) (a .dated .now) (a .pending .now) (a .past .now) (a .snapshots .now) (a .copies .now) (a .copied .now) (a .h)
+
+said : (c : tie.After-damaged) → c .damaged .result ≡ damaged (held c)
+said c = let a = start c .args in c .damaged .ensures (a .disk .now) (a .dated .now) (a .copied .now)
+
+-- what each test that was passed has said
+spared : (c : tie.Else1) → damaged (held (c .before)) ≡ false
+spared c = sym (said (c .before)) ∙ c .if1 .left
+
+shaped : (c : tie.Else2) → readShaped (start (c .before .before .before .before) .args .page) (start (c .before .before .before .before) .args .buffer .now) ≡ true
+shaped c = sym (c .before .read-shaped .ensures) ∙ not-false _ (c .if2 .left)
+
+laid-requires : tie.Need-laid-requires
+laid-requires c κs = search needs
+
+damaged-requires : tie.Need-damaged-requires
+damaged-requires c κs = search needs
+
+returns : tie.Need-returns
+returns c =
+    let a = start (c .before) .args in
+    now-damaged (held (c .before)) (a .page) (a .buffer .now) (sym (said (c .before)) ∙ c .if1 .taken)
+
+read-shaped-requires : tie.Need-read-shaped-requires
+read-shaped-requires c κs = search needs
+
+same-length : tie.Need-same-length
+same-length c = search needs
+
+returns-2 : tie.Need-returns-2
+returns-2 c =
+    let a = start (c .before .before .before .before) .args in
+    now-misshaped (held (c .before .before .before .before)) (a .page) (a .buffer .now) (spared (c .before .before .before)) (sym (c .before .read-shaped .ensures) ∙ not-true _ (c .if2 .taken))
+
+look-at-requires : tie.Need-look-at-requires
+look-at-requires c κs =
+    let a = start (c .before .before .before .before .before) .args in
+    let q = shaped-is (a .page) (a .buffer .now) (shaped (c .before)) in
+    (lookable (a .h) (c .before .before .before .before .before .before .laid .ensures) (spared (c .before .before .before .before)) (a .page) (q .0), q .1)
+
+same-length-2 : tie.Need-same-length-2
+same-length-2 c = search needs
+
+returns-3 : tie.Need-returns-3
+returns-3 c =
+    let a = start (c .before .before .before .before .before .before .before .before) .args in
+    now-done (held (c .before .before .before .before .before .before .before .before)) (a .page) (a .buffer .now) (spared (c .before .before .before .before .before .before .before)) (shaped (c .before .before .before .before))
+    (c .before .before .look-at .ensures (a .snapshots .now) (a .copies .now) (a .copied .now))
+
+pub current-read-spec : {M : Type 1} → statement M
+current-read-spec =
+    tie.close
+    (tie.spec
+    laid-requires
+    damaged-requires
+    returns
+    read-shaped-requires
+    same-length
+    returns-2
+    look-at-requires
+    same-length-2
+    returns-3)

@@ -1,0 +1,277 @@
+// The reads of the store, and standing. None requires anything: each refuses what it can't answer.
+use model::Answer;
+use model::Figures;
+use tables::Copied;
+use tables::CopyTable;
+use tables::Disk;
+use tables::Found;
+use tables::Heads;
+use tables::PastTable;
+use tables::PendingTable;
+use tables::Snapshots;
+use views::View;
+ghost use mathlib.Core.Path.{_≡_};
+ghost use mathlib.Core.List.{List};
+ghost use Prim.Native.Nat.{ℕ, _≤_};
+ghost use lib.ListN.{length};
+ghost use Rattle.model.specs.Store.{pageAsOf};
+ghost use Rattle.model.specs.Reads as model;
+ghost use Rattle.model.specs.Reads.{tickOf};
+ghost use lib.IntN.{pos, _-ℤ_};
+ghost use Rattle.tables.specs.Rows.{copyHeads};
+ghost use Rattle.tables.specs.Contents.{contents};
+ghost use Rattle.views.specs.Views.{Lookable};
+ghost use Rattle.reads.specs.Read.{Read};
+
+// Standing's answer, and its five figures.
+pub struct Stood {
+    pub answer: Answer,
+    pub figures: Figures,
+}
+
+// The page as of s: the serving copy's words, else what the tables show.
+fn show_page(
+    disk: &Disk,
+    dated: &Disk,
+    pending: &PendingTable,
+    past: &PastTable,
+    copies: &CopyTable,
+    copied: &Copied,
+    h: Heads,
+    page: u64,
+    s: u64,
+    buffer: &mut [u64],
+)
+    requires { ⌜ Lookable (now disk) (now dated) (now pending) (now past) h page ⌝ }
+    requires { ⌜ (h .copies ≤ 128) × (length (copyHeads (now copies)) ≡ 128) × (length (now copied) ≡ 2048) × (length (now buffer) ≡ 16) ⌝ }
+    ensures { λ _. ⌜ ((snapshots : List ℕ) → now (buffer .exit) ≡ pageAsOf (contents (now (disk .entry)) (now (dated .entry)) (now (pending .entry)) (now (past .entry)) snapshots (now (copies .entry)) (now (copied .entry)) h) page s) ⌝ }
+{
+    match tables::lookups::serving(copies, h.copies, page, s) {
+        Found::At(i) => views::sixteen(copied, 16 * i, buffer),
+        Found::Nothing => {
+            let v = View {
+                page,
+                current: false,
+                stamp: s,
+                ages: false,
+            };
+            views::look_at(disk, dated, pending, past, h, v, buffer)
+        }
+    }
+}
+
+fn read_shaped(page: u64, buffer: &[u64]) -> bool
+    ensures { λ r. ⌜ r ≡ model.readShaped page (now (buffer .entry)) ⌝ }
+{
+    if page < 32 { buffer.len() == 16 } else { false }
+}
+
+fn read_at(
+    disk: &Disk,
+    dated: &Disk,
+    pending: &PendingTable,
+    past: &PastTable,
+    snapshots: &Snapshots,
+    copies: &CopyTable,
+    copied: &Copied,
+    h: Heads,
+    good: bool,
+    time: u64,
+    page: u64,
+    buffer: &mut [u64],
+) -> Answer
+    ensures { λ r. ⌜ Read (model.readAt (contents (now (disk .entry)) (now (dated .entry)) (now (pending .entry)) (now (past .entry)) (now (snapshots .entry)) (now (copies .entry)) (now (copied .entry)) h) good time page (now (buffer .entry))) r (now (buffer .exit)) ⌝ }
+{
+    tables::laid(*disk, *dated, *pending, *past, *snapshots, *copies, *copied);
+    if damage::damaged(pending, past, snapshots, copies, h) {
+        return Answer::Damaged;
+    }
+    if !good {
+        return Answer::Shape;
+    }
+    if !read_shaped(page, buffer) {
+        return Answer::Shape;
+    }
+    if h.horizon < time {
+        return Answer::Ahead(h.horizon);
+    }
+    let s = tables::lookups::largest_known(snapshots, h.snapshots, time);
+    if s == 0 {
+        return Answer::NoSnapshot;
+    }
+    show_page(
+        disk,
+        dated,
+        pending,
+        past,
+        copies,
+        copied,
+        h,
+        page,
+        s,
+        buffer,
+    );
+    Answer::Done(s)
+}
+
+// The page as of the largest known snapshot at or before a time.
+pub fn snapshot_read(
+    disk: &Disk,
+    dated: &Disk,
+    pending: &PendingTable,
+    past: &PastTable,
+    snapshots: &Snapshots,
+    copies: &CopyTable,
+    copied: &Copied,
+    h: Heads,
+    time: u64,
+    page: u64,
+    buffer: &mut [u64],
+) -> Answer
+    ensures { λ r. ⌜ Read (model.snapshotRead (contents (now (disk .entry)) (now (dated .entry)) (now (pending .entry)) (now (past .entry)) (now (snapshots .entry)) (now (copies .entry)) (now (copied .entry)) h) time page (now (buffer .entry))) r (now (buffer .exit)) ⌝ }
+{
+    read_at(
+        disk,
+        dated,
+        pending,
+        past,
+        snapshots,
+        copies,
+        copied,
+        h,
+        true,
+        time,
+        page,
+        buffer,
+    )
+}
+
+// The same at a clock tick.
+pub fn clock_read(
+    disk: &Disk,
+    dated: &Disk,
+    pending: &PendingTable,
+    past: &PastTable,
+    snapshots: &Snapshots,
+    copies: &CopyTable,
+    copied: &Copied,
+    h: Heads,
+    tick: u64,
+    page: u64,
+    buffer: &mut [u64],
+) -> Answer
+    ensures { λ r. ⌜ Read (model.clockRead (contents (now (disk .entry)) (now (dated .entry)) (now (pending .entry)) (now (past .entry)) (now (snapshots .entry)) (now (copies .entry)) (now (copied .entry)) h) tick page (now (buffer .entry))) r (now (buffer .exit)) ⌝ }
+{
+    if tick <= 72057594037927935 {
+        return read_at(
+            disk,
+            dated,
+            pending,
+            past,
+            snapshots,
+            copies,
+            copied,
+            h,
+            true,
+            256 * tick,
+            page,
+            buffer,
+        );
+    }
+    read_at(
+        disk,
+        dated,
+        pending,
+        past,
+        snapshots,
+        copies,
+        copied,
+        h,
+        false,
+        0,
+        page,
+        buffer,
+    )
+}
+
+// The page as it is now.
+pub fn current_read(
+    disk: &Disk,
+    dated: &Disk,
+    pending: &PendingTable,
+    past: &PastTable,
+    snapshots: &Snapshots,
+    copies: &CopyTable,
+    copied: &Copied,
+    h: Heads,
+    page: u64,
+    buffer: &mut [u64],
+) -> Answer
+    ensures { λ r. ⌜ Read (model.currentRead (contents (now (disk .entry)) (now (dated .entry)) (now (pending .entry)) (now (past .entry)) (now (snapshots .entry)) (now (copies .entry)) (now (copied .entry)) h) page (now (buffer .entry))) r (now (buffer .exit)) ⌝ }
+{
+    tables::laid(*disk, *dated, *pending, *past, *snapshots, *copies, *copied);
+    if damage::damaged(pending, past, snapshots, copies, h) {
+        return Answer::Damaged;
+    }
+    if !read_shaped(page, buffer) {
+        return Answer::Shape;
+    }
+    let v = View {
+        page,
+        current: true,
+        stamp: 0,
+        ages: false,
+    };
+    views::look_at(disk, dated, pending, past, h, v, buffer);
+    Answer::Done(0)
+}
+
+// The ticks by which the last commit is ahead of the horizon. Both are below 2^56, so the casts lose nothing.
+fn lag(last: u64, horizon: u64) -> i64
+    ensures { λ r. ⌜ r ≡ pos (tickOf last) -ℤ pos (tickOf horizon) ⌝ }
+{
+    let l = (last / 256) as i64;
+    let h = (horizon / 256) as i64;
+    l - h
+}
+
+// The numbers of rows in the tables, and the lag.
+pub fn standing(
+    disk: &Disk,
+    dated: &Disk,
+    pending: &PendingTable,
+    past: &PastTable,
+    snapshots: &Snapshots,
+    copies: &CopyTable,
+    copied: &Copied,
+    h: Heads,
+) -> Stood
+    ensures { λ r. ⌜ (r .answer ≡ model.standing (contents (now (disk .entry)) (now (dated .entry)) (now (pending .entry)) (now (past .entry)) (now (snapshots .entry)) (now (copies .entry)) (now (copied .entry)) h) .answer) × (r .figures ≡ model.standing (contents (now (disk .entry)) (now (dated .entry)) (now (pending .entry)) (now (past .entry)) (now (snapshots .entry)) (now (copies .entry)) (now (copied .entry)) h) .figures) ⌝ }
+{
+    tables::laid(*disk, *dated, *pending, *past, *snapshots, *copies, *copied);
+    if damage::damaged(pending, past, snapshots, copies, h) {
+        let none = Figures {
+            pending: 0,
+            past: 0,
+            snapshots: 0,
+            copies: 0,
+            lag: 0,
+        };
+        return Stood {
+            answer: Answer::Damaged,
+            figures: none,
+        };
+    }
+    let behind = lag(h.last, h.horizon);
+    let figures = Figures {
+        pending: h.pending as u64,
+        past: h.past as u64,
+        snapshots: h.snapshots as u64,
+        copies: h.copies as u64,
+        lag: behind,
+    };
+    Stood {
+        answer: Answer::Done(0),
+        figures,
+    }
+}
