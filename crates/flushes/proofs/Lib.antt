@@ -1,0 +1,11 @@
+pub mod Turns
+pub mod Listing
+pub mod Marks
+pub mod Staying
+pub mod Copying
+pub mod Settling
+pub mod Verdicts
+pub mod Holdings
+pub mod Judging
+pub mod Writing
+pub mod Told
