@@ -40,5 +40,5 @@ module _ (st : Store) (p : ℕ) where
   pub accepted-room : judgeFlush st p ≡ Accepted → Room (flushStore st p)
   accepted-room e = subst (Told st p) e told
 
-  pub refused-code : (a : Answer) → judgeFlush st p ≡ Refused a → codeOf a ≡ 0 → ⊥
-  refused-code a e = subst (Told st p) e told
+  pub refused-code : {a : Answer} → judgeFlush st p ≡ Refused a → codeOf a ≡ 0 → ⊥
+  refused-code e = subst (Told st p) e told
