@@ -1,0 +1,4 @@
+pub mod Undamaged
+pub mod Shapes
+pub mod Rooms
+pub mod Outcomes

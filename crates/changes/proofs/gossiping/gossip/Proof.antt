@@ -1,0 +1,163 @@
+-- Each answer hands its tests to the law of its outcome; code 0 hands on what the judge promised, the writer left and the journal took.
+use borrow.Author.Needs.{needs}
+use borrow.Author.Tests.{not-true, not-false}
+use native.Mathlib.Omega.{arith}
+use Prim.Native.Nat.{_≤_}
+use mathlib.Core.Path.{_≡_, refl, _∙_, sym}
+use mathlib.Core.Bool.{true, false}
+use lib.ListN.{length}
+use Rattle.model.specs.Answers.{codeOf}
+use Rattle.model.specs.Store.{Store}
+use Rattle.model.specs.Damage.{damaged}
+use Rattle.model.specs.Changes.{Change, gossip}
+use Rattle.model.specs.Judgement.{stampsShaped, judge}
+use Rattle.model.specs.Calls.{journalShaped, roomed}
+use Rattle.tables.specs.Contents.{contents}
+use Rattle.changes.proofs.Undamaged.{Undamaged, undamaged}
+use Rattle.changes.proofs.Shapes.{shape-second, shape-third, Formed, formed, stamps-short}
+use Rattle.changes.proofs.Rooms.{Taken, gossip-room}
+use Rattle.changes.proofs.Outcomes.{left-damaged, left-shape, Passed, left-refused, taken, left-done}
+use Rattle.changes.proofs.gossiping.gossip.Statement.{statement}
+use Rattle.changes.proofs.gossiping.gossip.Tie as tie
+
+-- the store and the change
+abbrev store : tie.Start → Store
+store s = let a = s .args in contents (a .disk .now) (a .dated .now) (a .pending .now) (a .past .now) (a .snapshots .now) (a .copies .now) (a .copied .now) (a .h)
+
+abbrev made : tie.Start → Change
+made s = let a = s .args in gossip (a .prev) (a .curr) (a .stamps .now)
+
+laid-requires : tie.Need-laid-requires
+laid-requires c κs = search needs
+
+damaged-requires : tie.Need-damaged-requires
+damaged-requires c κs = search needs
+
+returns : tie.Need-returns
+returns c = let a = c .before .before .before .before .before .before .before .before .before .before .before .before .before .before .args in left-damaged _ _ _ _ _ (sym (c .before .damaged .ensures (a .disk .now) (a .dated .now) (a .copied .now)) ∙ c .if1 .taken)
+
+-- past the first test the store is whole
+whole : (c : tie.Else1) → damaged (store (c .before .before .before .before .before .before .before .before .before .before .before .before .before .before)) ≡ false
+whole c = let a = c .before .before .before .before .before .before .before .before .before .before .before .before .before .before .args in sym (c .before .damaged .ensures (a .disk .now) (a .dated .now) (a .copied .now)) ∙ c .if1 .left
+
+sound : (c : tie.Else1) → Undamaged (c .before .before .before .before .before .before .before .before .before .before .before .before .before .before .args .pending .now) (c .before .before .before .before .before .before .before .before .before .before .before .before .before .before .args .copies .now) (c .before .before .before .before .before .before .before .before .before .before .before .before .before .before .args .h)
+sound c =
+    let a = c .before .before .before .before .before .before .before .before .before .before .before .before .before .before .args in
+    undamaged (a .disk .now) (a .dated .now) (a .pending .now) (a .past .now) (a .snapshots .now) (a .copies .now) (a .copied .now) (a .h) (c .before .before .before .before .laid .ensures) (whole c)
+
+journal-shaped-requires : tie.Need-journal-shaped-requires
+journal-shaped-requires c κs = search needs
+
+same-length : tie.Need-same-length
+same-length c = search needs
+
+returns-2 : tie.Need-returns-2
+returns-2 c = left-shape _ _ _ _ _ (whole (c .before .before .before)) (shape-second _ refl (sym (c .before .journal-shaped .ensures) ∙ not-true _ (c .if2 .taken)))
+
+-- past the second the journal is in shape
+placed : (c : tie.Else2) → journalShaped (c .before .before .before .before .before .before .before .before .before .before .before .before .before .before .before .before .before .args .journal .now) (c .before .before .before .before .before .before .before .before .before .before .before .before .before .before .before .before .before .args .used .at) ≡ true
+placed c = sym (c .before .journal-shaped .ensures) ∙ not-false _ (c .if2 .left)
+
+stamps-shaped-requires : tie.Need-stamps-shaped-requires
+stamps-shaped-requires c κs = search needs
+
+same-length-2 : tie.Need-same-length-2
+same-length-2 c = search needs
+
+returns-3 : tie.Need-returns-3
+returns-3 c = left-shape _ _ _ _ _ (whole (c .before .before .before .before .before)) (shape-third refl (placed (c .before .before)) (sym (c .before .stamps-shaped .ensures) ∙ not-true _ (c .if3 .taken)))
+
+-- past the third the change is well-formed
+passed : (c : tie.Else3) → Passed (store (c .before .before .before .before .before .before .before .before .before .before .before .before .before .before .before .before .before .before .before)) (c .before .before .before .before .before .before .before .before .before .before .before .before .before .before .before .before .before .before .before .args .journal .now) (c .before .before .before .before .before .before .before .before .before .before .before .before .before .before .before .before .before .before .before .args .used .at) true (made (c .before .before .before .before .before .before .before .before .before .before .before .before .before .before .before .before .before .before .before))
+passed c = record { whole = whole (c .before .before .before .before .before); formed = shape-third refl (placed (c .before .before)) (sym (c .before .stamps-shaped .ensures) ∙ not-false _ (c .if3 .left)); once = refl }
+
+fine : (c : tie.Else3) → Formed true (c .before .before .before .before .before .before .before .before .before .before .before .before .before .before .before .before .before .before .before .args .used .at) (stampsShaped (c .before .before .before .before .before .before .before .before .before .before .before .before .before .before .before .before .before .before .before .args .prev) (c .before .before .before .before .before .before .before .before .before .before .before .before .before .before .before .before .before .before .before .args .curr) (c .before .before .before .before .before .before .before .before .before .before .before .before .before .before .before .before .before .before .before .args .stamps .now))
+fine c = formed true (c .before .before .before .before .before .before .before .before .before .before .before .before .before .before .before .before .before .before .before .args .journal .now) _ _ (passed c .formed)
+
+short : (c : tie.Else3) → length (c .before .before .before .before .before .before .before .before .before .before .before .before .before .before .before .before .before .before .before .args .stamps .now) ≤ 16
+short c = let a = c .before .before .before .before .before .before .before .before .before .before .before .before .before .before .before .before .before .before .before .args in stamps-short (a .prev) (a .curr) (a .stamps .now) (fine c .shaped)
+
+judge-gossip-requires : tie.Need-judge-gossip-requires
+judge-gossip-requires c κs = (c .before .before .before .before .before .before .before .before .before .before .laid .ensures .snapshot-words, sound (c .before .before .before .before .before .before) .counted .snapshot-count, short (c .before))
+
+mul-settled : tie.Need-mul-settled
+mul-settled c = omega (arith, short (c .before .before .before))
+
+add-settled : tie.Need-add-settled
+add-settled c = omega (arith, short (c .before .before .before))
+
+settled-requires : tie.Need-settled-requires
+settled-requires c κs = (omega (arith, short (c .before .before .before)), fine (c .before .before .before) .placed)
+
+-- the verdict and the answer are the model's
+judged : (c : tie.After-settled) → c .before .before .judge-gossip .result ≡ judge (store (c .before .before .before .before .before .before .before .before .before .before .before .before .before .before .before .before .before .before .before .before .before .before .before)) (made (c .before .before .before .before .before .before .before .before .before .before .before .before .before .before .before .before .before .before .before .before .before .before .before))
+judged c = let a = c .before .before .before .before .before .before .before .before .before .before .before .before .before .before .before .before .before .before .before .before .before .before .before .args in c .before .before .judge-gossip .ensures (a .disk .now) (a .dated .now) (a .pending .now) (a .past .now) (a .copies .now) (a .copied .now)
+
+settles : (c : tie.After-settled) → c .settled .result ≡ roomed (c .before .before .judge-gossip .result) (c .before .before .before .before .before .before .before .before .before .before .before .before .before .before .before .before .before .before .before .before .before .before .before .args .journal .now) (c .before .before .before .before .before .before .before .before .before .before .before .before .before .before .before .before .before .before .before .before .before .before .before .args .used .at) (made (c .before .before .before .before .before .before .before .before .before .before .before .before .before .before .before .before .before .before .before .before .before .before .before))
+settles c = c .settled .ensures (made (c .before .before .before .before .before .before .before .before .before .before .before .before .before .before .before .before .before .before .before .before .before .before .before)) refl
+
+code-requires : tie.Need-code-requires
+code-requires c κs = search needs
+
+same-length-3 : tie.Need-same-length-3
+same-length-3 c = search needs
+
+returns-4 : tie.Need-returns-4
+returns-4 c = left-refused (passed (c .before .before .before .before .before .before)) (judged (c .before .before)) (settles (c .before .before)) (λ z. c .if4 .taken (c .before .code .ensures ∙ z))
+
+-- code 0: the verdict was accepted, and the record fits
+zero : (c : tie.Else4) → codeOf (c .before .before .settled .result) ≡ 0
+zero c = sym (c .before .code .ensures) ∙ c .if4 .left
+
+accepted : (c : tie.Else4) → Taken (c .before .before .before .before .judge-gossip .result) (c .before .before .before .before .before .before .before .before .before .before .before .before .before .before .before .before .before .before .before .before .before .before .before .before .before .args .journal .now) (c .before .before .before .before .before .before .before .before .before .before .before .before .before .before .before .before .before .before .before .before .before .before .before .before .before .args .used .at) (made (c .before .before .before .before .before .before .before .before .before .before .before .before .before .before .before .before .before .before .before .before .before .before .before .before .before)) (c .before .before .settled .result)
+accepted c = taken (passed (c .before .before .before .before .before .before)) (judged (c .before .before)) (settles (c .before .before)) (zero c)
+
+apply-gossip-requires : tie.Need-apply-gossip-requires
+apply-gossip-requires c κs =
+    let a = c .before .before .before .before .before .before .before .before .before .before .before .before .before .before .before .before .before .before .before .before .before .before .before .before .before .before .before .args in
+    let l = c .before .before .before .before .before .before .before .before .before .before .before .before .before .before .before .before .before .laid .ensures in
+    let u = sound (c .before .before .before .before .before .before .before .before .before .before .before .before .before) in
+    record {
+      past-rows = l .past-rows;
+      snapshot-words = l .snapshot-words;
+      copy-rows = l .copy-rows;
+      counted = u .counted;
+      pages-in = u .pages-in;
+      room = gossip-room (a .disk .now) (a .dated .now) (a .pending .now) (a .past .now) (a .snapshots .now) (a .copies .now) (a .copied .now) (a .h) (a .prev) (a .curr) (a .stamps .now) (sym (judged (c .before .before .before .before)) ∙ accepted (c .before .before) .accepted);
+    }
+
+append-gossip-requires : tie.Need-append-gossip-requires
+append-gossip-requires c κs = (short (c .before .before .before .before .before .before .before .before .before .before), accepted (c .before .before .before .before) .fits)
+
+same-length-4 : tie.Need-same-length-4
+same-length-4 c = search needs
+
+returns-5 : tie.Need-returns-5
+returns-5 c =
+    let a = c .before .before .before .before .before .before .before .before .before .before .before .before .before .before .before .before .before .before .before .before .before .before .before .before .before .before .before .before .before .before .before .before .args in
+    left-done (passed (c .before .before .before .before .before .before .before .before .before .before .before .before .before)) (judged (c .before .before .before .before .before .before .before .before .before)) (settles (c .before .before .before .before .before .before .before .before .before)) (zero (c .before .before .before .before .before .before .before)) (c .before .before .before .before .apply-gossip .ensures .contains (a .disk .now) (a .dated .now) (a .pending .now) (a .copied .now)) (c .before .before .append-gossip .ensures)
+
+pub gossip-spec : {M : Type 1} → statement M
+gossip-spec =
+    tie.close
+    (tie.spec
+    laid-requires
+    damaged-requires
+    returns
+    journal-shaped-requires
+    same-length
+    returns-2
+    stamps-shaped-requires
+    same-length-2
+    returns-3
+    judge-gossip-requires
+    mul-settled
+    add-settled
+    settled-requires
+    code-requires
+    same-length-3
+    returns-4
+    apply-gossip-requires
+    append-gossip-requires
+    same-length-4
+    returns-5)

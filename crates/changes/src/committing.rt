@@ -1,0 +1,101 @@
+// Commit, with its journal.
+use crate::settling::Changed;
+use journal::place::Place;
+use model::Answer;
+use tables::Copied;
+use tables::CopyTable;
+use tables::Disk;
+use tables::Heads;
+use tables::PastTable;
+use tables::PendingTable;
+use tables::Snapshots;
+ghost use mathlib.Core.Path.{_≡_};
+ghost use lib.ListN.{length};
+ghost use lib.Dec.{eqb};
+ghost use Rattle.model.specs.Lists.{both};
+ghost use Rattle.model.specs.Judgement.{objectsShaped};
+ghost use Rattle.model.specs.Calls.{journalShaped, commitCall};
+ghost use Rattle.tables.specs.Contents.{contents};
+ghost use Rattle.changes.specs.Left.{Left};
+
+// The lists and the journal have a shape that a commit can have.
+fn commit_shaped(journal: &[u8], used: Place, objects: &[u64], values: &[u64]) -> bool
+    ensures { λ r. ⌜ r ≡ both (both (eqb (length (now (objects .entry))) (length (now (values .entry)))) (journalShaped (now (journal .entry)) (used .at))) (objectsShaped (now (objects .entry))) ⌝ }
+{
+    if objects.len() != values.len() {
+        return false;
+    }
+    if !crate::settling::journal_shaped(journal, used) {
+        return false;
+    }
+    rules::objects_shaped(objects)
+}
+
+pub fn commit(
+    disk: &Disk,
+    dated: &Disk,
+    pending: &mut PendingTable,
+    past: &mut PastTable,
+    snapshots: &Snapshots,
+    copies: &CopyTable,
+    copied: &Copied,
+    h: Heads,
+    journal: &mut [u8],
+    used: Place,
+    t: u64,
+    objects: &[u64],
+    values: &[u64],
+) -> Changed
+    ensures { λ r. ⌜ Left (commitCall (contents (now (disk .entry)) (now (dated .entry)) (now (pending .entry)) (now (past .entry)) (now (snapshots .entry)) (now (copies .entry)) (now (copied .entry)) h) (now (journal .entry)) (used .at) t (now (objects .entry)) (now (values .entry))) (r .answer) (contents (now (disk .entry)) (now (dated .entry)) (now (pending .exit)) (now (past .exit)) (now (snapshots .entry)) (now (copies .entry)) (now (copied .entry)) (r .heads)) (now (journal .exit)) (r .place .at) ⌝ }
+{
+    tables::laid(*disk, *dated, *pending, *past, *snapshots, *copies, *copied);
+    if damage::damaged(pending, past, snapshots, copies, h) {
+        return Changed {
+            heads: h,
+            answer: Answer::Damaged,
+            place: used,
+        };
+    }
+    if !commit_shaped(journal, used, objects, values) {
+        return Changed {
+            heads: h,
+            answer: Answer::Shape,
+            place: used,
+        };
+    }
+    if rules::named_twice(objects) {
+        return Changed {
+            heads: h,
+            answer: Answer::Twice,
+            place: used,
+        };
+    }
+    let mut rows = [0usize; 16];
+    commits::find_rows(pending, h.pending, objects, &mut rows);
+    let verdict = commits::judge_commit(pending, snapshots, copies, h, t, objects, &rows);
+    let answer = crate::settling::settled(verdict, journal, used, 10 + 10 * objects.len());
+    if answer.code() != 0 {
+        return Changed {
+            heads: h,
+            answer,
+            place: used,
+        };
+    }
+    let heads = commits::apply_commit(
+        pending,
+        past,
+        snapshots,
+        copies,
+        h,
+        t,
+        objects,
+        values,
+        &rows,
+    );
+    let place = used.append_commit(journal, t, objects, values);
+    Changed {
+        heads,
+        answer,
+        place,
+    }
+}
