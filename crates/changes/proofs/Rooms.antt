@@ -12,11 +12,10 @@ use Rattle.model.specs.declared.Answer.the-variants.{Done, Nothing, NoRoom}
 use Rattle.model.specs.declared.Verdict.{Verdict}
 use Rattle.model.specs.declared.Verdict.the-variants.{Accepted, Idle, Refused}
 use Rattle.model.specs.Answers.{codeOf}
-use Rattle.model.specs.Limits.{mostPast, mostCopies}
-use Rattle.model.specs.Lists.{both, pick, kept, emptyB}
+use Rattle.model.specs.Lists.{pick, kept}
 use Rattle.model.specs.Store.{Store}
-use Rattle.model.specs.Changes.{Change, commit, gossip, flush, ofPage, dues, flushStore}
-use Rattle.model.specs.Judgement.{judge, judgeGossip, judgeFlush}
+use Rattle.model.specs.Changes.{Change, commit, gossip, flush}
+use Rattle.model.specs.Judgement.{judge, judgeGossip}
 use Rattle.model.specs.Records.{lengthOf}
 use Rattle.model.specs.Calls.{reached, roomed}
 use Rattle.tables.specs.declared.Heads.{Heads}
@@ -26,6 +25,7 @@ use Rattle.tables.proofs.Counts.{up-to-length}
 use Rattle.journal.proofs.Places.{reached-is}
 use Rattle.commits.proofs.Judged as commits
 use Rattle.gossips.proofs.Judged as gossips
+use Rattle.flushes.proofs.Told as flushes
 
 -- ---- the answers; r is the place behind a record of length n
 module _ (j : List ℕ) (used : ℕ) {v : Verdict} where
@@ -56,18 +56,10 @@ sober-by Accepted h = tt
 sober-by Idle h = tt
 sober-by (Refused a) h = h a refl
 
-pick-all : (P : Verdict → Type 0) (b : Bool) {v w : Verdict} → P v → P w → P (pick b v w)
-pick-all P true g h = g
-pick-all P false g h = h
-
 pub sober : (st : Store) (c : Change) → Sober (judge st c)
-unfolding judgeFlush
 sober st (commit t ws) = sober-by _ (λ a e. commits.refused-code st t ws e)
 sober st (gossip prev curr stamps) = sober-by _ (λ a e. gossips.refused-code st prev curr stamps e)
-sober st (flush p) =
-    pick-all Sober (both (emptyB (kept (ofPage p) (st .pending))) (emptyB (dues st p (st .snapshots)))) tt
-    (pick-all Sober (ltb mostCopies (length (flushStore st p .copies))) (λ z. omega arith)
-    (pick-all Sober (ltb mostPast (length (flushStore st p .past))) (λ z. omega arith) tt))
+sober st (flush p) = sober-by _ (λ a e. flushes.refused-code st p e)
 
 -- ---- so code 0 says that the verdict was accepted, and that the record fits
 pub record Taken (v : Verdict) (j : List ℕ) (used : ℕ) (c : Change) (a : Answer) : Type 0 where

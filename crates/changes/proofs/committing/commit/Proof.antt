@@ -14,7 +14,7 @@ use Rattle.model.specs.Damage.{damaged}
 use Rattle.model.specs.Changes.{Change, commit, paired}
 use Rattle.model.specs.Judgement.{objectsShaped, shaped, twice, judge}
 use Rattle.model.specs.Calls.{journalShaped, roomed}
-use Rattle.tables.specs.Contents.{contents}
+use Rattle.tables.specs.Contents.{contents, Laid}
 use Rattle.commits.specs.Promises.{Ready}
 use Rattle.commits.proofs.Judged.{accepted-room}
 use Rattle.changes.proofs.Undamaged.{Undamaged, undamaged}
@@ -23,6 +23,25 @@ use Rattle.changes.proofs.Rooms.{Taken}
 use Rattle.changes.proofs.Outcomes.{left-damaged, left-shape, left-twice, Passed, left-refused, taken, left-done}
 use Rattle.changes.proofs.committing.commit.Statement.{statement}
 use Rattle.changes.proofs.committing.commit.Tie as tie
+
+-- from past each test back to past the one before, and to the entry
+abbrev back2 : tie.Else2 → tie.Else1
+back2 c = c .before .before .before
+
+abbrev back3 : tie.Else3 → tie.Else2
+back3 c = c .before .before
+
+abbrev back4 : tie.Else4 → tie.Else3
+back4 c = c .before .before .before .before .before .before .before .before .before .before
+
+abbrev start1 : tie.Else1 → tie.Start
+start1 c = c .before .before .before .before .before .before .before .before .before .before .before .before .before .before .before
+
+abbrev start2 : tie.Else2 → tie.Start
+start2 c = start1 (back2 c)
+
+abbrev start3 : tie.Else3 → tie.Start
+start3 c = start2 (back3 c)
 
 -- the store, the change and whether the two lists make one
 abbrev store : tie.Start → Store
@@ -40,17 +59,24 @@ laid-requires c κs = search needs
 damaged-requires : tie.Need-damaged-requires
 damaged-requires c κs = search needs
 
+-- what the first test found
+found : (c : tie.After-damaged) → damaged (store (c .before .before .before .before .before .before .before .before .before .before .before .before .before .before)) ≡ c .damaged .result
+found c = let a = c .before .before .before .before .before .before .before .before .before .before .before .before .before .before .args in sym (c .damaged .ensures (a .disk .now) (a .dated .now) (a .copied .now))
+
 returns : tie.Need-returns
-returns c = let a = c .before .before .before .before .before .before .before .before .before .before .before .before .before .before .before .args in left-damaged _ _ _ _ _ (sym (c .before .damaged .ensures (a .disk .now) (a .dated .now) (a .copied .now)) ∙ c .if1 .taken)
+returns c = left-damaged _ _ _ _ _ (found (c .before) ∙ c .if1 .taken)
 
--- past the first test the store is whole
-whole : (c : tie.Else1) → damaged (store (c .before .before .before .before .before .before .before .before .before .before .before .before .before .before .before)) ≡ false
-whole c = let a = c .before .before .before .before .before .before .before .before .before .before .before .before .before .before .before .args in sym (c .before .damaged .ensures (a .disk .now) (a .dated .now) (a .copied .now)) ∙ c .if1 .left
+-- past it the tables are whole
+whole : (c : tie.Else1) → damaged (store (start1 c)) ≡ false
+whole c = found (c .before) ∙ c .if1 .left
 
-sound : (c : tie.Else1) → Undamaged (c .before .before .before .before .before .before .before .before .before .before .before .before .before .before .before .args .pending .now) (c .before .before .before .before .before .before .before .before .before .before .before .before .before .before .before .args .copies .now) (c .before .before .before .before .before .before .before .before .before .before .before .before .before .before .before .args .h)
+rows : (c : tie.Else1) → let a = start1 c .args in Laid (a .disk .now) (a .dated .now) (a .pending .now) (a .past .now) (a .snapshots .now) (a .copies .now) (a .copied .now)
+rows c = c .before .before .before .before .laid .ensures
+
+sound : (c : tie.Else1) → let a = start1 c .args in Undamaged (a .pending .now) (a .copies .now) (a .h)
 sound c =
-    let a = c .before .before .before .before .before .before .before .before .before .before .before .before .before .before .before .args in
-    undamaged (a .disk .now) (a .dated .now) (a .pending .now) (a .past .now) (a .snapshots .now) (a .copies .now) (a .copied .now) (a .h) (c .before .before .before .before .laid .ensures) (whole c)
+    let a = start1 c .args in
+    undamaged (a .disk .now) (a .dated .now) (a .pending .now) (a .past .now) (a .snapshots .now) (a .copies .now) (a .copied .now) (a .h) (rows c) (whole c)
 
 commit-shaped-requires : tie.Need-commit-shaped-requires
 commit-shaped-requires c κs = search needs
@@ -64,17 +90,24 @@ returns-2 c =
     left-shape _ _ _ _ _ (whole (c .before .before .before)) (commit-formed (a .objects .now) (a .values .now) _ ∙ sym (c .before .commit-shaped .ensures) ∙ not-true _ (c .if2 .taken))
 
 -- past the second the lists and the journal are in shape
-shapes : (c : tie.Else2) → both (both (pairs (c .before .before .before .before .before .before .before .before .before .before .before .before .before .before .before .before .before .before)) (journalShaped (c .before .before .before .before .before .before .before .before .before .before .before .before .before .before .before .before .before .before .args .journal .now) (c .before .before .before .before .before .before .before .before .before .before .before .before .before .before .before .before .before .before .args .used .at))) (objectsShaped (c .before .before .before .before .before .before .before .before .before .before .before .before .before .before .before .before .before .before .args .objects .now)) ≡ true
+shapes : (c : tie.Else2) → let a = start2 c .args in both (both (pairs (start2 c)) (journalShaped (a .journal .now) (a .used .at))) (objectsShaped (a .objects .now)) ≡ true
 shapes c = sym (c .before .commit-shaped .ensures) ∙ not-false _ (c .if2 .left)
 
-fine : (c : tie.Else2) → Formed (pairs (c .before .before .before .before .before .before .before .before .before .before .before .before .before .before .before .before .before .before)) (c .before .before .before .before .before .before .before .before .before .before .before .before .before .before .before .before .before .before .args .used .at) (objectsShaped (c .before .before .before .before .before .before .before .before .before .before .before .before .before .before .before .before .before .before .args .objects .now))
-fine c = formed _ (c .before .before .before .before .before .before .before .before .before .before .before .before .before .before .before .before .before .before .args .journal .now) _ _ (shapes c)
+fine : (c : tie.Else2) → let a = start2 c .args in Formed (pairs (start2 c)) (a .used .at) (objectsShaped (a .objects .now))
+fine c = formed _ (start2 c .args .journal .now) _ _ (shapes c)
 
-even : (c : tie.Else2) → length (c .before .before .before .before .before .before .before .before .before .before .before .before .before .before .before .before .before .before .args .objects .now) ≡ length (c .before .before .before .before .before .before .before .before .before .before .before .before .before .before .before .before .before .before .args .values .now)
+even : (c : tie.Else2) → let a = start2 c .args in length (a .objects .now) ≡ length (a .values .now)
 even c = eqb-true _ _ (fine c .makes)
 
-short : (c : tie.Else2) → length (c .before .before .before .before .before .before .before .before .before .before .before .before .before .before .before .before .before .before .args .objects .now) ≤ 16
+short : (c : tie.Else2) → length (start2 c .args .objects .now) ≤ 16
 short c = objects-short _ (fine c .shaped)
+
+-- so are the pairs that they make
+made-shaped : (c : tie.Else2) → let a = start2 c .args in both (both (pairs (start2 c)) (journalShaped (a .journal .now) (a .used .at))) (shaped (made (start2 c))) ≡ true
+made-shaped c = let a = start2 c .args in commit-formed (a .objects .now) (a .values .now) _ ∙ shapes c
+
+made-twice : (c : tie.After-named-twice) → twice (made (start2 (c .before))) ≡ c .named-twice .result
+made-twice c = let a = start2 (c .before) .args in commit-twice (a .objects .now) (a .values .now) (even (c .before)) (a .t) ∙ sym (c .named-twice .ensures)
 
 named-twice-requires : tie.Need-named-twice-requires
 named-twice-requires c κs = search needs
@@ -82,34 +115,29 @@ named-twice-requires c κs = search needs
 same-length-2 : tie.Need-same-length-2
 same-length-2 c = search needs
 
--- the same of the pairs
-made-shaped : (c : tie.Else2) → both (both (pairs (c .before .before .before .before .before .before .before .before .before .before .before .before .before .before .before .before .before .before)) (journalShaped (c .before .before .before .before .before .before .before .before .before .before .before .before .before .before .before .before .before .before .args .journal .now) (c .before .before .before .before .before .before .before .before .before .before .before .before .before .before .before .before .before .before .args .used .at))) (shaped (made (c .before .before .before .before .before .before .before .before .before .before .before .before .before .before .before .before .before .before))) ≡ true
-made-shaped c = commit-formed (c .before .before .before .before .before .before .before .before .before .before .before .before .before .before .before .before .before .before .args .objects .now) (c .before .before .before .before .before .before .before .before .before .before .before .before .before .before .before .before .before .before .args .values .now) _ ∙ shapes c
-
-made-twice : (c : tie.After-named-twice) → twice (made (c .before .before .before .before .before .before .before .before .before .before .before .before .before .before .before .before .before .before .before)) ≡ c .named-twice .result
-made-twice c = let a = c .before .before .before .before .before .before .before .before .before .before .before .before .before .before .before .before .before .before .before .args in commit-twice (a .objects .now) (a .values .now) (even (c .before)) (a .t) ∙ sym (c .named-twice .ensures)
-
 returns-3 : tie.Need-returns-3
 returns-3 c = left-twice _ _ _ _ _ (whole (c .before .before .before .before .before)) (made-shaped (c .before .before)) (made-twice (c .before) ∙ c .if3 .taken)
 
 -- past the third the change is well-formed
-passed : (c : tie.Else3) → Passed (store (c .before .before .before .before .before .before .before .before .before .before .before .before .before .before .before .before .before .before .before .before)) (c .before .before .before .before .before .before .before .before .before .before .before .before .before .before .before .before .before .before .before .before .args .journal .now) (c .before .before .before .before .before .before .before .before .before .before .before .before .before .before .before .before .before .before .before .before .args .used .at) (pairs (c .before .before .before .before .before .before .before .before .before .before .before .before .before .before .before .before .before .before .before .before)) (made (c .before .before .before .before .before .before .before .before .before .before .before .before .before .before .before .before .before .before .before .before))
-passed c = record { whole = whole (c .before .before .before .before .before); formed = made-shaped (c .before .before); once = made-twice (c .before) ∙ c .if3 .left }
+passed : (c : tie.Else3) → let a = start3 c .args in Passed (store (start3 c)) (a .journal .now) (a .used .at) (pairs (start3 c)) (made (start3 c))
+passed c = record { whole = whole (back2 (back3 c)); formed = made-shaped (back3 c); once = made-twice (c .before) ∙ c .if3 .left }
 
 find-rows-requires : tie.Need-find-rows-requires
-find-rows-requires c κs = (sound (c .before .before .before .before .before .before .before) .counted .pending-count, c .before .before .before .before .before .before .before .before .before .before .before .laid .ensures .pending-rows, short (c .before .before .before .before), refl)
+find-rows-requires c κs =
+    let e = back3 (c .before .before) in
+    (sound (back2 e) .counted .pending-count, rows (back2 e) .pending-rows, short e, refl)
 
--- the rows are found
-ready : (c : tie.After-find-rows) → Ready (c .before .before .before .before .before .before .before .before .before .before .before .before .before .before .before .before .before .before .before .before .before .before .before .args .pending .now) (c .before .before .before .before .before .before .before .before .before .before .before .before .before .before .before .before .before .before .before .before .before .before .before .args .snapshots .now) (c .before .before .before .before .before .before .before .before .before .before .before .before .before .before .before .before .before .before .before .before .before .before .before .args .copies .now) (c .before .before .before .before .before .before .before .before .before .before .before .before .before .before .before .before .before .before .before .before .before .before .before .args .h) (c .before .before .before .before .before .before .before .before .before .before .before .before .before .before .before .before .before .before .before .before .before .before .before .args .objects .now) (c .find-rows .last .1 .1 .1 .0)
+-- the judge and the writer have what they ask
+ready : (c : tie.After-find-rows) → let a = start3 (c .before .before .before) .args in Ready (a .pending .now) (a .snapshots .now) (a .copies .now) (a .h) (a .objects .now) (c .find-rows .last .1 .1 .1 .0)
 ready c =
-    let u = sound (c .before .before .before .before .before .before .before .before) in
-    let l = c .before .before .before .before .before .before .before .before .before .before .before .before .laid .ensures in
+    let e = back3 (c .before .before .before) in
+    let l = rows (back2 e) in
     record {
       pending-rows = l .pending-rows;
       snapshot-words = l .snapshot-words;
       copy-rows = l .copy-rows;
-      counted = u .counted;
-      short = short (c .before .before .before .before .before);
+      counted = sound (back2 e) .counted;
+      short = short e;
       once = sym (c .before .before .before .before .named-twice .ensures) ∙ c .before .before .before .if3 .left;
       room-for-rows = c .find-rows .ensures .1;
       found = c .find-rows .ensures .0;
@@ -128,13 +156,15 @@ settled-requires : tie.Need-settled-requires
 settled-requires c κs = (omega (arith, short (c .before .before .before .before .before .before .before .before .before)), fine (c .before .before .before .before .before .before .before .before .before) .placed)
 
 -- the verdict and the answer are the model's
-judged : (c : tie.After-settled) → c .before .before .judge-commit .result ≡ judge (store (c .before .before .before .before .before .before .before .before .before .before .before .before .before .before .before .before .before .before .before .before .before .before .before .before .before .before .before .before)) (made (c .before .before .before .before .before .before .before .before .before .before .before .before .before .before .before .before .before .before .before .before .before .before .before .before .before .before .before .before))
+judged : (c : tie.After-settled) → let s = start3 (c .before .before .before .before .before .before .before .before) in c .before .before .judge-commit .result ≡ judge (store s) (made s)
 judged c =
-    let a = c .before .before .before .before .before .before .before .before .before .before .before .before .before .before .before .before .before .before .before .before .before .before .before .before .before .before .before .before .args in
+    let a = start3 (c .before .before .before .before .before .before .before .before) .args in
     c .before .before .judge-commit .ensures (a .disk .now) (a .dated .now) (a .past .now) (a .copied .now) (a .values .now) (sym (even (c .before .before .before .before .before .before .before .before .before .before)))
 
-settles : (c : tie.After-settled) → c .settled .result ≡ roomed (c .before .before .judge-commit .result) (c .before .before .before .before .before .before .before .before .before .before .before .before .before .before .before .before .before .before .before .before .before .before .before .before .before .before .before .before .args .journal .now) (c .before .before .before .before .before .before .before .before .before .before .before .before .before .before .before .before .before .before .before .before .before .before .before .before .before .before .before .before .args .used .at) (made (c .before .before .before .before .before .before .before .before .before .before .before .before .before .before .before .before .before .before .before .before .before .before .before .before .before .before .before .before))
-settles c = let a = c .before .before .before .before .before .before .before .before .before .before .before .before .before .before .before .before .before .before .before .before .before .before .before .before .before .before .before .before .args in c .settled .ensures (made (c .before .before .before .before .before .before .before .before .before .before .before .before .before .before .before .before .before .before .before .before .before .before .before .before .before .before .before .before)) (commit-length (a .objects .now) (a .values .now) (even (c .before .before .before .before .before .before .before .before .before .before)) (a .t))
+settles : (c : tie.After-settled) → let s = start3 (c .before .before .before .before .before .before .before .before) in c .settled .result ≡ roomed (c .before .before .judge-commit .result) (s .args .journal .now) (s .args .used .at) (made s)
+settles c =
+    let s = start3 (c .before .before .before .before .before .before .before .before) in
+    c .settled .ensures (made s) (commit-length (s .args .objects .now) (s .args .values .now) (even (c .before .before .before .before .before .before .before .before .before .before)) (s .args .t))
 
 code-requires : tie.Need-code-requires
 code-requires c κs = search needs
@@ -149,32 +179,35 @@ returns-4 c = left-refused (passed (c .before .before .before .before .before .b
 zero : (c : tie.Else4) → codeOf (c .before .before .settled .result) ≡ 0
 zero c = sym (c .before .code .ensures) ∙ c .if4 .left
 
-accepted : (c : tie.Else4) → Taken (c .before .before .before .before .judge-commit .result) (c .before .before .before .before .before .before .before .before .before .before .before .before .before .before .before .before .before .before .before .before .before .before .before .before .before .before .before .before .before .before .args .journal .now) (c .before .before .before .before .before .before .before .before .before .before .before .before .before .before .before .before .before .before .before .before .before .before .before .before .before .before .before .before .before .before .args .used .at) (made (c .before .before .before .before .before .before .before .before .before .before .before .before .before .before .before .before .before .before .before .before .before .before .before .before .before .before .before .before .before .before)) (c .before .before .settled .result)
-accepted c = taken (passed (c .before .before .before .before .before .before .before .before .before .before)) (judged (c .before .before)) (settles (c .before .before)) (zero c)
+accepted : (c : tie.Else4) → let s = start3 (back4 c) in Taken (c .before .before .before .before .judge-commit .result) (s .args .journal .now) (s .args .used .at) (made s) (c .before .before .settled .result)
+accepted c = taken (passed (back4 c)) (judged (c .before .before)) (settles (c .before .before)) (zero c)
 
 apply-commit-requires : tie.Need-apply-commit-requires
 apply-commit-requires c κs =
-    let a = c .before .before .before .before .before .before .before .before .before .before .before .before .before .before .before .before .before .before .before .before .before .before .before .before .before .before .before .before .before .before .before .before .before .args in
-    let e = sym (even (c .before .before .before .before .before .before .before .before .before .before .before .before .before .before .before)) in (
-      ready (c .before .before .before .before .before .before .before .before .before .before),
+    let e = c .before .before .before in
+    let a = start3 (back4 e) .args in
+    let l = sym (even (back3 (back4 e))) in (
+      ready (e .before .before .before .before .before .before .before),
       (
-        c .before .before .before .before .before .before .before .before .before .before .before .before .before .before .before .before .before .before .before .before .before .before .laid .ensures .past-rows,
-        e,
-        λ disk dated copied. accepted-room (contents disk dated (a .pending .now) (a .past .now) (a .snapshots .now) (a .copies .now) copied (a .h)) (a .t) (paired (a .objects .now) (a .values .now))
-            (sym (c .before .before .before .before .before .before .before .judge-commit .ensures disk dated (a .past .now) copied (a .values .now) e) ∙ accepted (c .before .before .before) .accepted),
+        rows (back2 (back3 (back4 e))) .past-rows,
+        l,
+        λ disk dated copied.
+            accepted-room (contents disk dated (a .pending .now) (a .past .now) (a .snapshots .now) (a .copies .now) copied (a .h)) (a .t) (paired (a .objects .now) (a .values .now))
+            (sym (e .before .before .before .before .judge-commit .ensures disk dated (a .past .now) copied (a .values .now) l) ∙ accepted e .accepted),
       ),
     )
 
 append-commit-requires : tie.Need-append-commit-requires
-append-commit-requires c κs = (even (c .before .before .before .before .before .before .before .before .before .before .before .before .before .before .before .before .before), short (c .before .before .before .before .before .before .before .before .before .before .before .before .before .before .before .before .before), accepted (c .before .before .before .before .before) .fits)
+append-commit-requires c κs = let e = c .before .before .before .before .before in (even (back3 (back4 e)), short (back3 (back4 e)), accepted e .fits)
 
 same-length-4 : tie.Need-same-length-4
 same-length-4 c = search needs
 
 returns-5 : tie.Need-returns-5
 returns-5 c =
-    let a = c .before .before .before .before .before .before .before .before .before .before .before .before .before .before .before .before .before .before .before .before .before .before .before .before .before .before .before .before .before .before .before .before .before .before .before .before .before .before .args in
-    left-done (passed (c .before .before .before .before .before .before .before .before .before .before .before .before .before .before .before .before .before .before)) (judged (c .before .before .before .before .before .before .before .before .before .before)) (settles (c .before .before .before .before .before .before .before .before .before .before)) (zero (c .before .before .before .before .before .before .before .before)) (c .before .before .before .before .apply-commit .ensures .contains (a .disk .now) (a .dated .now) (a .copied .now)) (c .before .before .append-commit .ensures)
+    let e = c .before .before .before .before .before .before .before .before in
+    let a = start3 (back4 e) .args in
+    left-done (passed (back4 e)) (judged (e .before .before)) (settles (e .before .before)) (zero e) (c .before .before .before .before .apply-commit .ensures .contains (a .disk .now) (a .dated .now) (a .copied .now)) (c .before .before .append-commit .ensures)
 
 pub commit-spec : {M : Type 1} → statement M
 commit-spec =
