@@ -9,3 +9,5 @@ pub mod Living
 pub mod Keeping
 pub mod Counts
 pub mod Bridges
+pub mod Compacts
+pub mod Lent

@@ -1,3 +1,4 @@
 pub mod Rows
 pub mod Contents
 pub mod Lookups
+pub mod Compaction

@@ -3,11 +3,19 @@ use crate::PastTable;
 use crate::Snapshots;
 use model::Past;
 ghost use mathlib.Core.Path.{_≡_};
-ghost use Prim.Native.Nat.{_≤_};
+ghost use mathlib.Core.List.{map};
+ghost use Prim.Native.Nat.{_≤_, _<_};
 ghost use lib.ListN.{length, take};
 ghost use Rattle.model.specs.Lists.{kept};
 ghost use Rattle.tables.specs.Rows.{pasts};
 ghost use Rattle.tables.specs.Lookups.{staysBy};
+ghost use Rattle.tables.specs.Compaction.{after, Compacted};
+
+// Rows, the first n of them kept.
+pub struct Front {
+    pub rows: [Past; 256],
+    pub n: usize,
+}
 
 // A row outside the scope stays, and so does a live one. The scope is a page, or 32 for every page.
 fn stays(
@@ -37,6 +45,103 @@ fn stays(
     crate::lookups::wanted(q, snapshots, known, 0)
 }
 
+// The place after a row.
+fn next(stays: bool, k: usize) -> usize
+    requires { ⌜ k < 256 ⌝ }
+    ensures { λ r. ⌜ r ≡ after stays k ⌝ }
+{
+    if stays { k + 1 } else { k }
+}
+
+// Of the first n rows, those that stay go to the front in their order. A walk by hand: a lent slice of structs.
+pub fn compact(rows: &mut [Past], n: usize, stay: [bool; 256]) -> usize
+    requires { ⌜ (n ≤ length (now rows)) × (n ≤ 256) ⌝ }
+    ensures { λ r. ⌜ Compacted stay n (now (rows .entry)) (now (rows .exit)) r ⌝ }
+{
+    let mut k: usize = 0;
+    let mut i: usize = 0;
+    while i < n {
+        let row = rows[i];
+        rows[k] = row;
+        k = next(stay[i], k);
+        i = i + 1;
+    }
+    k
+}
+
+// The same on a table by value, so that callers are covered.
+pub fn compacted(rows: [Past; 256], n: usize, stay: [bool; 256]) -> Front
+    requires { ⌜ n ≤ 256 ⌝ }
+    ensures { λ r. ⌜ Compacted stay n rows (r .rows) (r .n) ⌝ }
+{
+    let mut out = rows;
+    let k = compact(&mut out, n, stay);
+    Front { rows: out, n: k }
+}
+
+fn blank() -> [Past; 256] {
+    [Past {
+        object: 0,
+        from: 0,
+        until: 0,
+        value: 0,
+    }; 256]
+}
+
+fn unjudged() -> [bool; 256] {
+    [false; 256]
+}
+
+// The first n rows, as structs.
+fn unpacked(t: &PastTable, n: usize) -> [Past; 256]
+    requires { ⌜ (n ≤ 256) × (length (pasts (now t)) ≡ 256) ⌝ }
+    ensures { λ r. ⌜ take n r ≡ take n (pasts (now (t .entry))) ⌝ }
+{
+    let mut rows = blank();
+    let mut i: usize = 0;
+    while i < n {
+        let q = crate::past_at(t, i);
+        rows[i] = q;
+        i += 1;
+    }
+    rows
+}
+
+// Which of the first n rows stay.
+fn judged(
+    t: &PastTable,
+    n: usize,
+    scope: u64,
+    horizon: u64,
+    snapshots: &Snapshots,
+    known: usize,
+    marks: &[u64; 32],
+) -> [bool; 256]
+    requires { ⌜ (n ≤ 256) × (length (pasts (now t)) ≡ 256) × (known ≤ 64) × (length (now snapshots) ≡ 64) × (length (now marks) ≡ 32) ⌝ }
+    ensures { λ r. ⌜ take n r ≡ take n (map (staysBy scope horizon (take known (now (snapshots .entry))) (now (marks .entry))) (pasts (now (t .entry)))) ⌝ }
+{
+    let mut stay = unjudged();
+    let mut i: usize = 0;
+    while i < n {
+        let q = crate::past_at(t, i);
+        stay[i] = stays(q, scope, horizon, snapshots, known, marks);
+        i += 1;
+    }
+    stay
+}
+
+// The first n rows back as words.
+fn pack(t: &mut PastTable, rows: [Past; 256], n: usize)
+    requires { ⌜ (n ≤ 256) × (length (pasts (now t)) ≡ 256) ⌝ }
+    ensures { λ _. ⌜ (take n (pasts (now (t .exit))) ≡ take n rows) × (length (pasts (now (t .exit))) ≡ 256) ⌝ }
+{
+    let mut i: usize = 0;
+    while i < n {
+        crate::put_past(t, i, rows[i]);
+        i += 1;
+    }
+}
+
 // Keeps the rows that stay; the result is their count.
 pub fn drop_dead(
     t: &mut PastTable,
@@ -50,15 +155,10 @@ pub fn drop_dead(
     requires { ⌜ (n ≤ 256) × (length (pasts (now t)) ≡ 256) × (known ≤ 64) × (length (now snapshots) ≡ 64) × (length (now marks) ≡ 32) ⌝ }
     ensures { λ r. ⌜ (take r (pasts (now (t .exit))) ≡ kept (staysBy scope horizon (take known (now (snapshots .entry))) (now (marks .entry))) (take n (pasts (now (t .entry))))) × (r ≡ length (kept (staysBy scope horizon (take known (now (snapshots .entry))) (now (marks .entry))) (take n (pasts (now (t .entry)))))) × (length (pasts (now (t .exit))) ≡ 256) ⌝ }
 {
-    let mut i: usize = 0;
-    let mut k: usize = 0;
-    while i < n {
-        let q = crate::past_at(t, i);
-        i += 1;
-        if stays(q, scope, horizon, snapshots, known, marks) {
-            crate::put_past(t, k, q);
-            k += 1;
-        }
-    }
-    k
+    let stay = judged(t, n, scope, horizon, snapshots, known, marks);
+    let rows = unpacked(t, n);
+    let front = compacted(rows, n, stay);
+    let rows = front.rows;
+    pack(t, rows, front.n);
+    front.n
 }
