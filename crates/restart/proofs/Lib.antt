@@ -1,0 +1,5 @@
+pub mod Zeros
+pub mod Standing
+pub mod Turning
+pub mod Holding
+pub mod Walking

@@ -1,0 +1,107 @@
+-- What is left of the walk, from the store that the tables hold, is the whole walk.
+use borrow.Author.Needs.{needs}
+use Prim.Native.Nat.{_-_}
+use mathlib.Core.Path.{ap, sym, _∙_}
+use native.Mathlib.Omega.{arith}
+use borrow.Author.Tests.{not-true, not-false}
+use lib.ListN.{length}
+use Rattle.model.specs.Store.{fresh}
+use Rattle.model.specs.Restart as model
+use Rattle.restart.proofs.Standing.{stands}
+use Rattle.restart.proofs.Holding.{fresh-held}
+use Rattle.restart.proofs.Walking.{Walking, moves-on, walked-end, walked-short, walked-malformed, walked-contradicts, walked-on}
+use Rattle.restart.proofs.walk.walk.Statement.{statement}
+use Rattle.restart.proofs.walk.walk.Tie as tie
+
+abbrev Inv-loop : tie.InvT-loop
+Inv-loop disk₀ dated₀ pending₀ past₀ snapshots₀ copies₀ copied₀ journal heads₀ at₀ disk dated pending past snapshots copies copied heads at = Walking journal disk dated pending past snapshots copies copied heads at
+
+abbrev μ-loop : tie.MeasureT-loop
+μ-loop disk₀ dated₀ pending₀ past₀ snapshots₀ copies₀ copied₀ journal heads₀ at₀ disk dated pending past snapshots copies copied heads at = length journal - at
+
+wipe-requires : tie.Need-wipe-requires Inv-loop μ-loop
+wipe-requires c κs = let l = c .before .before .before .pre in (l .value-words, l .stamp-words)
+
+loop-holds : tie.Need-loop-holds Inv-loop μ-loop
+loop-holds c = let a = c .before .before .before .before .args in
+    let j = a .journal .now in
+    let e = c .wipe .ensures .0 (a .pending .now) (a .past .now) (a .snapshots .now) (a .copies .now) (a .copied .now) in
+    record { fuel = length j; enough = omega arith; held = fresh-held (c .before .before .before .before .pre) e (c .wipe .ensures .1); rest = ap (model.walk (length j) j 1) e }
+
+read-at-requires : tie.Need-read-at-requires Inv-loop μ-loop
+read-at-requires c κs = search needs
+
+enum-told : tie.Need-enum-told Inv-loop μ-loop
+enum-told c = search needs
+
+done-requires : tie.Need-done-requires Inv-loop μ-loop
+done-requires c κs = search needs
+
+returns : tie.Need-returns Inv-loop μ-loop
+returns c = walked-end (c .before .before .before .before .loop .inv) (sym (c .before .before .before .read-at .ensures) ∙ c .before .enum-told .given .1) (c .done .ensures)
+
+enum-told-2 : tie.Need-enum-told-2 Inv-loop μ-loop
+enum-told-2 c = search needs
+
+done-requires-2 : tie.Need-done-requires-2 Inv-loop μ-loop
+done-requires-2 c κs = search needs
+
+returns-2 : tie.Need-returns-2 Inv-loop μ-loop
+returns-2 c = walked-short (c .before .before .before .before .loop .inv) (sym (c .before .before .before .read-at .ensures) ∙ c .before .enum-told2 .given .1) (c .done2 .ensures)
+
+enum-known-offset : tie.Need-enum-known-offset Inv-loop μ-loop
+enum-known-offset c = search needs
+
+start-requires : tie.Need-start-requires Inv-loop μ-loop
+start-requires c κs = let l = c .before .before .before .before .before .before .loop .inv .held .laid in (l .value-words, l .stamp-words)
+
+returns-3 : tie.Need-returns-3 Inv-loop μ-loop
+returns-3 c = let v = c .before .before .before .before .before .before .before .loop in
+    walked-malformed (v .inv) (sym (c .before .before .before .before .before .before .read-at .ensures) ∙ c .before .before .before .before .offset .given .1) (c .start .ensures (v .pending) (v .past) (v .snapshots) (v .copies) (v .copied))
+
+enum-known-record : tie.Need-enum-known-record Inv-loop μ-loop
+enum-known-record c = search needs
+
+replay-requires : tie.Need-replay-requires Inv-loop μ-loop
+replay-requires c κs = let v = c .before .before .before .before .before .before .before .before .before .before .before .loop in
+    (v .inv .held, stands (c .before .before .before .before .before .before .before .before .before .before .before .before .before .before .before .before .args .journal .now) (v .at) (sym (c .before .before .before .before .before .before .before .before .before .before .read-at .ensures) ∙ c .before .before .before .before .before .before .before .before .«record» .given .1))
+
+start-requires-2 : tie.Need-start-requires-2 Inv-loop μ-loop
+start-requires-2 c κs = let l = c .before .before .before .before .replay .ensures .laid in (l .value-words, l .stamp-words)
+
+returns-4 : tie.Need-returns-4 Inv-loop μ-loop
+returns-4 c = let e = sym (c .before .before .before .before .before .before .before .before .before .before .before .before .before .before .before .before .read-at .ensures) ∙ c .before .before .before .before .before .before .before .before .before .before .before .before .before .before .«record» .given .1 in
+    walked-contradicts (c .before .before .before .before .before .before .before .before .before .before .before .before .before .before .before .before .before .loop .inv) e (c .before .before .before .before .before .replay .ensures) (not-true _ (c .before .before .before .if1 .taken)) (c .start2 .ensures _ _ _ _ _)
+
+loop-less : tie.Need-loop-less Inv-loop μ-loop
+loop-less c = let m = moves-on (c .before .before .before .before .before .before .before .before .before .before .before .before .before .before .before .before .before .before .before .before .args .journal .now) (c .before .before .before .before .before .before .before .before .before .before .before .before .before .before .before .loop .at) fresh (sym (c .before .before .before .before .before .before .before .before .before .before .before .before .before .before .read-at .ensures) ∙ c .before .before .before .before .before .before .before .before .before .before .before .before .«record» .given .1) in
+    omega (arith, m .0, m .1)
+
+loop-again : tie.Need-loop-again Inv-loop μ-loop
+loop-again c = let e = sym (c .before .before .before .before .before .before .before .before .before .before .before .before .before .before .read-at .ensures) ∙ c .before .before .before .before .before .before .before .before .before .before .before .before .«record» .given .1 in
+    walked-on (c .before .before .before .before .before .before .before .before .before .before .before .before .before .before .before .loop .inv) e (c .before .before .before .replay .ensures) (not-false _ (c .before .if1 .left))
+
+pub walk-spec : {M : Type 1} → statement M
+walk-spec =
+    tie.close
+    (tie.spec
+    Inv-loop
+    μ-loop
+    wipe-requires
+    loop-holds
+    read-at-requires
+    enum-told
+    done-requires
+    returns
+    enum-told-2
+    done-requires-2
+    returns-2
+    enum-known-offset
+    start-requires
+    returns-3
+    enum-known-record
+    replay-requires
+    start-requires-2
+    returns-4
+    loop-less
+    loop-again)

@@ -1,0 +1,69 @@
+// A whole record of the journal, carried out if the store accepts it.
+use journal::walk::Record;
+use model::Verdict;
+use tables::Copied;
+use tables::CopyTable;
+use tables::Disk;
+use tables::Heads;
+use tables::PastTable;
+use tables::PendingTable;
+use tables::Snapshots;
+ghost use mathlib.Core.Path.{_≡_};
+ghost use Rattle.tables.specs.Contents.{contents};
+ghost use Rattle.restart.specs.Turns.{acceptedB, Held, Carried, Stands, changeAt};
+
+// Whether the store accepted the record, and the heads after it.
+pub struct Replayed {
+    pub accepted: bool,
+    pub heads: Heads,
+}
+
+// Nothing to do is no yes: a record that would change nothing can't stand in a journal.
+pub fn accepts(verdict: Verdict) -> bool
+    ensures { λ r. ⌜ r ≡ acceptedB verdict ⌝ }
+{
+    match verdict {
+        Verdict::Accepted => true,
+        Verdict::Idle => false,
+        Verdict::Refused(_) => false,
+    }
+}
+
+// The record at a place, told by its head.
+pub fn replay(
+    disk: &mut Disk,
+    dated: &mut Disk,
+    pending: &mut PendingTable,
+    past: &mut PastTable,
+    snapshots: &mut Snapshots,
+    copies: &mut CopyTable,
+    copied: &mut Copied,
+    h: Heads,
+    journal: &[u8],
+    at: usize,
+    told: Record,
+) -> Replayed
+    requires { ⌜ Held (now disk) (now dated) (now pending) (now past) (now snapshots) (now copies) (now copied) h ⌝ }
+    requires { ⌜ Stands (now journal) at told ⌝ }
+    ensures { λ r. ⌜ Carried (contents (now (disk .entry)) (now (dated .entry)) (now (pending .entry)) (now (past .entry)) (now (snapshots .entry)) (now (copies .entry)) (now (copied .entry)) h) (changeAt (now (journal .entry)) at) (r .accepted) (now (disk .exit)) (now (dated .exit)) (now (pending .exit)) (now (past .exit)) (now (snapshots .exit)) (now (copies .exit)) (now (copied .exit)) (r .heads) ⌝ }
+{
+    match told {
+        Record::Commit(head) => {
+            crate::commit::replay(pending, past, snapshots, copies, h, journal, at, head)
+        }
+        Record::Gossip(head) => {
+            crate::gossip::replay(past, snapshots, copies, h, journal, at, head)
+        }
+        Record::Flush(head) => crate::flush::carry(
+            disk,
+            dated,
+            pending,
+            past,
+            snapshots,
+            copies,
+            copied,
+            h,
+            head.page,
+        ),
+    }
+}
