@@ -1,5 +1,4 @@
 // Restart from every leading part of a small journal, and from that journal with each of its bytes changed in turn.
-mod words;
 mod write;
 
 // Restart from these bytes, as a line: the answer, the place, standing. No table is empty before, so what is empty after was emptied.
@@ -32,13 +31,13 @@ fn restarted(before: &[u8], n: usize, journal: &[u8]) {
         started.heads,
     );
     let place = started.place;
-    words::number(before, n as u64);
+    prints::number(before, n as u64);
     let answer = started.answer;
-    words::answered(answer);
-    words::number(b", place ", place.at as u64);
+    prints::answered(answer);
+    prints::number(b", place ", place.at as u64);
     let figures = stood.figures;
-    words::figures(figures);
-    words::end();
+    prints::figures(figures);
+    prints::end();
 }
 
 fn cut(before: &[u8], journal: &[u8], n: usize) {

@@ -1,5 +1,4 @@
 // Journals made by the public calls on a fresh store; each answers its used length.
-use crate::words;
 use changes::settling::Changed;
 use journal::place::Place;
 use tables::Copied;
@@ -22,10 +21,10 @@ fn none() -> Heads {
 }
 
 fn told(before: &[u8], n: u64, done: Changed) {
-    words::number(before, n);
+    prints::number(before, n);
     let answer = done.answer;
-    words::answered(answer);
-    words::end();
+    prints::answered(answer);
+    prints::end();
 }
 
 // The calls of `four` in order, each from where the last one left.

@@ -1,5 +1,4 @@
 // One call of the night: its words, the call, its answer.
-use crate::words;
 use changes::settling::Changed;
 use journal::place::Place;
 use model::Answer;
@@ -27,9 +26,9 @@ pub fn commit(
     object: u64,
     value: u64,
 ) -> Changed {
-    words::number(b" commit ", t);
-    words::number(b", object ", object);
-    words::number(b" = ", value);
+    prints::number(b" commit ", t);
+    prints::number(b", object ", object);
+    prints::number(b" = ", value);
     changes::committing::commit(
         disk,
         dated,
@@ -55,13 +54,13 @@ fn stamps_in(stamp: u64) -> usize
 }
 
 fn say_gossip(prev: u64, curr: u64, stamp: u64) {
-    words::number(b" gossip ", prev);
-    words::number(b", ", curr);
+    prints::number(b" gossip ", prev);
+    prints::number(b", ", curr);
     if stamp == 0 {
-        words::text(b", {}");
+        prints::text(b", {}");
     } else {
-        words::number(b", {", stamp);
-        words::text(b"}");
+        prints::number(b", {", stamp);
+        prints::text(b"}");
     }
 }
 
@@ -113,7 +112,7 @@ pub fn flush(
     used: Place,
     page: u64,
 ) -> Changed {
-    words::number(b" flush ", page);
+    prints::number(b" flush ", page);
     changes::flushing::flush(
         disk,
         dated,
@@ -142,8 +141,8 @@ pub fn read(
     time: u64,
     page: u64,
 ) -> Answer {
-    words::number(b" read time ", time);
-    words::number(b", page ", page);
+    prints::number(b" read time ", time);
+    prints::number(b", page ", page);
     let mut buffer = [1u64; 16];
     let answer = reads::snapshot_read(
         disk,
@@ -158,8 +157,8 @@ pub fn read(
         page,
         &mut buffer,
     );
-    words::answered(answer);
-    words::page(&buffer);
-    words::end();
+    prints::answered(answer);
+    prints::page(&buffer);
+    prints::end();
     answer
 }

@@ -1,7 +1,6 @@
 // Document 01's worked night, items 1 to 12, by the public calls: for each call a line with its item, the call, its code and number,
 // and what the item tells besides.
 mod calls;
-mod words;
 
 use changes::settling::Changed;
 use journal::place::Place;
@@ -128,10 +127,10 @@ fn show(
     asked: u64,
 ) {
     let answer = done.answer;
-    words::answered(answer);
+    prints::answered(answer);
     if asked == JOURNAL {
         let place = done.place;
-        words::bytes(journal, place.at);
+        prints::bytes(journal, place.at);
     }
     if asked == STANDING {
         let stood = reads::standing(
@@ -145,9 +144,9 @@ fn show(
             done.heads,
         );
         let figures = stood.figures;
-        words::figures(figures);
+        prints::figures(figures);
     }
-    words::end();
+    prints::end();
 }
 
 // A row of the night, as a line.
@@ -164,7 +163,7 @@ fn step(
     used: Place,
     row: [u64; 6],
 ) -> Changed {
-    words::item(row[0]);
+    prints::item(row[0]);
     if row[1] == READ {
         let answer = calls::read(
             disk,

@@ -2,8 +2,8 @@
 use Prim.Native.Nat.{_-_}
 use native.Mathlib.Omega.{arith}
 use lib.ListN.{length}
-use Rattle.night.proofs.words.spaced.Statement.{statement}
-use Rattle.night.proofs.words.spaced.Tie as tie
+use Rattle.prints.proofs.spaced.Statement.{statement}
+use Rattle.prints.proofs.spaced.Tie as tie
 
 abbrev Inv-loop : tie.InvT-loop
 Inv-loop words i₀ i = Unit {0}

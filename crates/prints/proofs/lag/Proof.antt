@@ -1,8 +1,8 @@
 -- Each arm knows the sign.
 use borrow.Author.Needs.{needs}
-use Rattle.night.proofs.Signs.{plain}
-use Rattle.night.proofs.words.lag.Statement.{statement}
-use Rattle.night.proofs.words.lag.Tie as tie
+use Rattle.prints.proofs.Signs.{plain}
+use Rattle.prints.proofs.lag.Statement.{statement}
+use Rattle.prints.proofs.lag.Tie as tie
 
 slice-aggregate-number : tie.Need-slice-aggregate-number
 slice-aggregate-number c = search needs

@@ -1,8 +1,8 @@
 -- `!n` of a negative n is below 2^63.
 use borrow.Author.Needs.{needs}
-use Rattle.cuts.proofs.Signs.{flip-casts, flip-adds}
-use Rattle.cuts.proofs.words.behind.Statement.{statement}
-use Rattle.cuts.proofs.words.behind.Tie as tie
+use Rattle.prints.proofs.Signs.{flip-casts, flip-adds}
+use Rattle.prints.proofs.behind.Statement.{statement}
+use Rattle.prints.proofs.behind.Tie as tie
 
 cast-result : tie.Need-cast-result
 cast-result c = flip-casts (c .args .n) (c .fits .n) (c .pre)

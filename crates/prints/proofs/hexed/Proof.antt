@@ -2,8 +2,8 @@
 use Prim.Native.Nat.{_-_}
 use native.Mathlib.Omega.{arith}
 use lib.ListN.{length}
-use Rattle.night.proofs.words.hexed.Statement.{statement}
-use Rattle.night.proofs.words.hexed.Tie as tie
+use Rattle.prints.proofs.hexed.Statement.{statement}
+use Rattle.prints.proofs.hexed.Tie as tie
 
 abbrev Inv-loop : tie.InvT-loop
 Inv-loop bytes i₀ i = Unit {0}

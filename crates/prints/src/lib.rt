@@ -1,4 +1,4 @@
-// What the night prints: numbers with a text before each.
+// What the programs print: numbers with a text before each.
 use libc::STDOUT_FILENO;
 use model::Answer;
 use model::Figures;

@@ -1,8 +1,8 @@
 -- The part printed is as long as the used length says.
 use borrow.Author.Needs.{needs}
 use lib.Seq.{length-take-le}
-use Rattle.night.proofs.words.bytes.Statement.{statement}
-use Rattle.night.proofs.words.bytes.Tie as tie
+use Rattle.prints.proofs.bytes.Statement.{statement}
+use Rattle.prints.proofs.bytes.Tie as tie
 
 slice-aggregate-text : tie.Need-slice-aggregate-text
 slice-aggregate-text c = search needs
