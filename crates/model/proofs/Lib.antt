@@ -1,1 +1,2 @@
 pub mod Night
+pub mod Orders

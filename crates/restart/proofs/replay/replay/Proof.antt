@@ -1,7 +1,9 @@
 -- Each kind of record is carried out by its own replay.
 use borrow.Author.Needs.{needs}
-use mathlib.Core.Path.{sym, subst}
-use Rattle.restart.specs.Turns.{Stands}
+use Prim.Native.Nat.{_<_}
+use mathlib.Core.Path.{_≡_, sym, subst}
+use Rattle.model.specs.Changes.{flush}
+use Rattle.restart.specs.Turns.{Stands, changeAt}
 use Rattle.restart.proofs.Standing.{flush-stands}
 use Rattle.restart.proofs.Turning.{carried-as}
 use Rattle.restart.proofs.Holding.{commit-held, gossip-held, commit-carried, gossip-carried}
@@ -23,9 +25,13 @@ replay-requires-2 c κs = let s = c .before .before .before .before .before .bef
 enum-known-told-3 : tie.Need-enum-known-told-3
 enum-known-told-3 c = search needs
 
+-- the flush that stands there
+flushed : (c : tie.After-told3) → let s = c .before .before .before in (changeAt (s .args .journal .now) (s .args .at) ≡ flush (c .told3 .given .0 .0 .page)) × (c .told3 .given .0 .0 .page < 32)
+flushed c = let s = c .before .before .before in
+    flush-stands (s .args .journal .now) (s .args .at) (subst (Stands (s .args .journal .now) (s .args .at)) (c .told3 .given .1) (s .pre .1))
+
 carry-requires : tie.Need-carry-requires
-carry-requires c κs = let s = c .before .before .before .before .before .before .before .before .before .before .before in
-    (s .pre .0, flush-stands (s .args .journal .now) (s .args .at) (subst (Stands (s .args .journal .now) (s .args .at)) (c .before .before .before .before .before .before .before .before .told3 .given .1) (s .pre .1)) .1)
+carry-requires c κs = (c .before .before .before .before .before .before .before .before .before .before .before .pre .0, flushed (c .before .before .before .before .before .before .before .before) .1)
 
 returns : tie.Need-returns
 returns c = commit-carried (c .before .before .before .before .before .before .before .before .before .pre .0) (c .replay .ensures)
@@ -34,8 +40,7 @@ returns-2 : tie.Need-returns-2
 returns-2 c = gossip-carried (c .before .before .before .before .before .before .before .before .pre .0) (c .replay2 .ensures)
 
 returns-3 : tie.Need-returns-3
-returns-3 c = let s = c .before .before .before .before .before .before .before .before .before .before .before .before in
-    carried-as (c .carry .ensures) (sym (flush-stands (s .args .journal .now) (s .args .at) (subst (Stands (s .args .journal .now) (s .args .at)) (c .before .before .before .before .before .before .before .before .before .told3 .given .1) (s .pre .1)) .0))
+returns-3 c = carried-as (c .carry .ensures) (sym (flushed (c .before .before .before .before .before .before .before .before .before) .0))
 
 pub replay-spec : {M : Type 1} → statement M
 replay-spec =

@@ -1,12 +1,15 @@
 -- What is left of the walk, from the store that the tables hold, is the whole walk.
 use borrow.Author.Needs.{needs}
 use Prim.Native.Nat.{_-_}
-use mathlib.Core.Path.{ap, sym, _∙_}
+use mathlib.Core.Path.{_≡_, ap, sym, _∙_}
 use native.Mathlib.Omega.{arith}
 use borrow.Author.Tests.{not-true, not-false}
 use lib.ListN.{length}
 use Rattle.model.specs.Store.{fresh}
+use Rattle.model.specs.Records.{stepAt}
 use Rattle.model.specs.Restart as model
+use Rattle.journal.specs.Heads.{headStep}
+use Rattle.journal.specs.declared.walk.Step.the-variants.{Whole}
 use Rattle.restart.proofs.Standing.{stands}
 use Rattle.restart.proofs.Holding.{fresh-held}
 use Rattle.restart.proofs.Walking.{Walking, moves-on, walked-end, walked-short, walked-malformed, walked-contradicts, walked-on}
@@ -59,27 +62,28 @@ returns-3 : tie.Need-returns-3 Inv-loop μ-loop
 returns-3 c = let v = c .before .before .before .before .before .before .before .loop in
     walked-malformed (v .inv) (sym (c .before .before .before .before .before .before .read-at .ensures) ∙ c .before .before .before .before .offset .given .1) (c .start .ensures (v .pending) (v .past) (v .snapshots) (v .copies) (v .copied))
 
+-- the record that is read
+there : (c : tie.After-record Inv-loop μ-loop)
+    → headStep (stepAt (c .before .before .before .before .before .before .before .before .args .journal .now) (c .before .before .before .loop .at)) ≡ Whole (c .«record» .given .0 .0) (c .«record» .given .0 .1 .0)
+there c = sym (c .before .before .read-at .ensures) ∙ c .«record» .given .1
+
 enum-known-record : tie.Need-enum-known-record Inv-loop μ-loop
 enum-known-record c = search needs
 
 replay-requires : tie.Need-replay-requires Inv-loop μ-loop
-replay-requires c κs = let v = c .before .before .before .before .before .before .before .before .before .before .before .loop in
-    (v .inv .held, stands (c .before .before .before .before .before .before .before .before .before .before .before .before .before .before .before .before .args .journal .now) (v .at) (sym (c .before .before .before .before .before .before .before .before .before .before .read-at .ensures) ∙ c .before .before .before .before .before .before .before .before .«record» .given .1))
+replay-requires c κs = let v = c .before .before .before .before .before .before .before .before .before .before .before .loop in (v .inv .held, stands (c .before .before .before .before .before .before .before .before .before .before .before .before .before .before .before .before .args .journal .now) (v .at) (there (c .before .before .before .before .before .before .before .before)))
 
 start-requires-2 : tie.Need-start-requires-2 Inv-loop μ-loop
 start-requires-2 c κs = let l = c .before .before .before .before .replay .ensures .laid in (l .value-words, l .stamp-words)
 
 returns-4 : tie.Need-returns-4 Inv-loop μ-loop
-returns-4 c = let e = sym (c .before .before .before .before .before .before .before .before .before .before .before .before .before .before .before .before .read-at .ensures) ∙ c .before .before .before .before .before .before .before .before .before .before .before .before .before .before .«record» .given .1 in
-    walked-contradicts (c .before .before .before .before .before .before .before .before .before .before .before .before .before .before .before .before .before .loop .inv) e (c .before .before .before .before .before .replay .ensures) (not-true _ (c .before .before .before .if1 .taken)) (c .start2 .ensures _ _ _ _ _)
+returns-4 c = walked-contradicts (c .before .before .before .before .before .before .before .before .before .before .before .before .before .before .before .before .before .loop .inv) (there (c .before .before .before .before .before .before .before .before .before .before .before .before .before .before)) (c .before .before .before .before .before .replay .ensures) (not-true _ (c .before .before .before .if1 .taken)) (c .start2 .ensures _ _ _ _ _)
 
 loop-less : tie.Need-loop-less Inv-loop μ-loop
-loop-less c = let m = moves-on (c .before .before .before .before .before .before .before .before .before .before .before .before .before .before .before .before .before .before .before .before .args .journal .now) (c .before .before .before .before .before .before .before .before .before .before .before .before .before .before .before .loop .at) fresh (sym (c .before .before .before .before .before .before .before .before .before .before .before .before .before .before .read-at .ensures) ∙ c .before .before .before .before .before .before .before .before .before .before .before .before .«record» .given .1) in
-    omega (arith, m .0, m .1)
+loop-less c = let m = moves-on (c .before .before .before .before .before .before .before .before .before .before .before .before .before .before .before .before .before .before .before .before .args .journal .now) (c .before .before .before .before .before .before .before .before .before .before .before .before .before .before .before .loop .at) fresh (there (c .before .before .before .before .before .before .before .before .before .before .before .before)) in omega (arith, m .0, m .1)
 
 loop-again : tie.Need-loop-again Inv-loop μ-loop
-loop-again c = let e = sym (c .before .before .before .before .before .before .before .before .before .before .before .before .before .before .read-at .ensures) ∙ c .before .before .before .before .before .before .before .before .before .before .before .before .«record» .given .1 in
-    walked-on (c .before .before .before .before .before .before .before .before .before .before .before .before .before .before .before .loop .inv) e (c .before .before .before .replay .ensures) (not-false _ (c .before .if1 .left))
+loop-again c = walked-on (c .before .before .before .before .before .before .before .before .before .before .before .before .before .before .before .loop .inv) (there (c .before .before .before .before .before .before .before .before .before .before .before .before)) (c .before .before .before .replay .ensures) (not-false _ (c .before .if1 .left))
 
 pub walk-spec : {M : Type 1} → statement M
 walk-spec =
