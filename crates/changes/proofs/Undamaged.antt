@@ -1,7 +1,7 @@
 -- What an undamaged store gives of whole tables: counts within them, copies of pages in range, and one entry an object.
 use Prim.Native.Nat.{ℕ}
 use mathlib.Core.Path.{_≡_, refl, _∙_}
-use mathlib.Core.Bool.{Bool, true, false}
+use mathlib.Core.Bool.{Bool, true, false, not}
 use mathlib.Core.List.{List, map}
 use lib.ListN.{take}
 use lib.Dec.{ltb, leb}
@@ -12,6 +12,7 @@ use Rattle.tables.specs.Rows.{pendings, pasts, copyHeads, copiesOf}
 use Rattle.tables.specs.Contents.{contents, Laid, Counted}
 use Rattle.tables.proofs.Bridges.{pages-in}
 use Rattle.tables.proofs.Cases.{by-test, clash}
+use Rattle.rules.proofs.Laws.{within}
 use Rattle.damage.proofs.Laws.{overCount, counted, damaged-over, damaged-is, tested, objectsOf}
 
 pub record Undamaged (pending copies : List (List ℕ)) (h : Heads) : Type 0 where
@@ -31,7 +32,7 @@ module _ (values stamps : List ℕ) (pending past : List (List ℕ)) (snapshots 
       let a = either-none (anyB (λ e. leb 512 (e .object)) (take (h .pending) (pendings pending))) _ e .1 in
       let b = either-none (anyB (λ q. leb 512 (q .object)) (take (h .past) (pasts past))) _ a .1 in
       let c = either-none (anyB (λ c. leb 32 (c .page)) (take (h .copies) (copiesOf (copyHeads copies) copied))) _ b in
-      (c .0, either-none (twiceB (objectsOf (h .pending) (pendings pending))) _ (c .1) .0)
+      (c .0, either-none (not (within 0 (h .horizon) (take (h .snapshots) snapshots))) _ (c .1) .1)
 
   pub undamaged : Laid values stamps pending past snapshots copies copied
       → damaged (contents values stamps pending past snapshots copies copied h) ≡ false → Undamaged pending copies h

@@ -49,7 +49,8 @@ pub fn commit(
     ensures { λ r. ⌜ Left (commitCall (contents (now (disk .entry)) (now (dated .entry)) (now (pending .entry)) (now (past .entry)) (now (snapshots .entry)) (now (copies .entry)) (now (copied .entry)) h) (now (journal .entry)) (used .at) t (now (objects .entry)) (now (values .entry))) (r .answer) (contents (now (disk .entry)) (now (dated .entry)) (now (pending .exit)) (now (past .exit)) (now (snapshots .entry)) (now (copies .entry)) (now (copied .entry)) (r .heads)) (now (journal .exit)) (r .place .at) ⌝ }
 {
     tables::laid(*disk, *dated, *pending, *past, *snapshots, *copies, *copied);
-    if damage::damaged(pending, past, snapshots, copies, h) {
+    let mut index = [128u8; 512];
+    if damage::damaged_or_indexed(pending, past, snapshots, copies, h, &mut index) {
         return Changed {
             heads: h,
             answer: Answer::Damaged,
@@ -71,7 +72,7 @@ pub fn commit(
         };
     }
     let mut rows = [0usize; 16];
-    commits::find_rows(pending, h.pending, objects, &mut rows);
+    commits::rows_by_index(&index[..], objects, &mut rows);
     let verdict = commits::judge_commit(pending, snapshots, copies, h, t, objects, &rows);
     let answer = crate::settling::settled(verdict, journal, used, 10 + 10 * objects.len());
     if answer.code() != 0 {

@@ -16,11 +16,11 @@ use Rattle.tables.specs.declared.Heads.{Heads}
 use Rattle.tables.specs.declared.Found.{Found}
 use Rattle.tables.specs.declared.Found.the-variants.{At, Nothing}
 use Rattle.tables.specs.Rows.{pendingOf, pendings, upTo}
-use Rattle.tables.specs.Lookups.{findPending}
+use Rattle.tables.specs.Lookups.{findPending, rowOf}
 use Rattle.tables.specs.Contents.{Counted}
 use Rattle.tables.proofs.Counts.{up-to-take}
 use Rattle.tables.proofs.Bridges.{found-below, lookup-at, lookup-none}
-use Rattle.commits.specs.Rows.{rowOf, rowsOf, newIn}
+use Rattle.commits.specs.Rows.{rowsOf, newIn}
 use Rattle.commits.proofs.Distinct.{map-off, find-other}
 
 -- the entries that a store holds are the first rows of the table

@@ -10,9 +10,9 @@ use Rattle.model.specs.Store.{Store}
 use Rattle.model.specs.Changes.{Write, writeOne, commitStore}
 use Rattle.tables.specs.declared.Heads.{Heads}
 use Rattle.tables.specs.Rows.{pastOf, pendings, pasts, copyHeads, upTo}
-use Rattle.tables.specs.Lookups.{findPending}
+use Rattle.tables.specs.Lookups.{findPending, rowOf}
 use Rattle.tables.specs.Contents.{contents, Counted}
-use Rattle.commits.specs.Rows.{rowOf, rowsOf, liveBy}
+use Rattle.commits.specs.Rows.{rowsOf, liveBy}
 
 -- whole tables, counts within them, a well-formed list of objects, and the row of each object's entry
 pub record Ready (pending : List (List ℕ)) (snapshots : List ℕ) (copies : List (List ℕ)) (h : Heads) (os rows : List ℕ) : Type 0 where

@@ -7,15 +7,8 @@ use Rattle.model.specs.declared.Past.{Past}
 use Rattle.model.specs.Store.{Store, Slot, none, some, lookup, liveB}
 use Rattle.model.specs.Changes.{closed}
 use Rattle.tables.specs.declared.Heads.{Heads}
-use Rattle.tables.specs.declared.Found.{Found}
-use Rattle.tables.specs.declared.Found.the-variants.{At, Nothing}
-use Rattle.tables.specs.Lookups.{findPending}
+use Rattle.tables.specs.Lookups.{findPending, rowOf}
 use Rattle.tables.specs.Contents.{contents}
-
--- 128 where the object has no entry
-abbrev pub rowOf : Found → ℕ
-rowOf (At i) = i
-rowOf Nothing = 128
 
 abbrev pub rowsOf : List ℕ → List Pending → List ℕ
 rowsOf os es = map (λ o. rowOf (findPending o es)) os

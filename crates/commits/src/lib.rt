@@ -10,16 +10,19 @@ use tables::PastTable;
 use tables::PendingTable;
 use tables::Snapshots;
 ghost use mathlib.Core.Path.{_≡_};
+ghost use mathlib.Core.Bool.{true};
 ghost use mathlib.Core.List.{List, map};
 ghost use Prim.Native.Nat.{ℕ, _≤_, max};
 ghost use lib.ListN.{length, take};
-ghost use lib.Dec.{eqb};
+ghost use lib.Dec.{eqb, ltb};
+ghost use Rattle.model.specs.declared.Pending.{Pending};
+ghost use Rattle.model.specs.Lists.{allB};
 ghost use Rattle.model.specs.Changes.{paired, closed, writeOne, commitStore};
 ghost use Rattle.model.specs.Judgement.{judgeCommit};
 ghost use Rattle.tables.specs.Rows.{pendings, pasts, copyHeads};
-ghost use Rattle.tables.specs.Lookups.{findPending};
+ghost use Rattle.tables.specs.Lookups.{findPending, rowOf, Indexed};
 ghost use Rattle.tables.specs.Contents.{contents, Counted};
-ghost use Rattle.commits.specs.Rows.{rowOf, rowsOf, trues, liveBy, displacesIn};
+ghost use Rattle.commits.specs.Rows.{rowsOf, trues, liveBy, displacesIn};
 ghost use Rattle.commits.specs.Promises.{Ready, OneReady, Room, Applied, Wrote, Added, pastWith};
 
 // The row of an object's pending entry, 128 where it has none.
@@ -42,6 +45,19 @@ pub fn find_rows(t: &PendingTable, n: usize, objects: &[u64], rows: &mut [usize;
     let mut k: usize = 0;
     while k < objects.len() {
         rows[k] = row_of(t, n, objects[k]);
+        k += 1;
+    }
+}
+
+// The same rows, by an index of the entries.
+pub fn rows_by_index(index: &[u8], objects: &[u64], rows: &mut [usize; 16])
+    requires { ⌜ (length (now index) ≡ 512) × (allB (λ o. ltb o 512) (now objects) ≡ true) × (length (now objects) ≤ 16) × (length (now rows) ≡ 16) ⌝ }
+    ensures { λ _. ⌜ ((es : List Pending) → Indexed (now (index .entry)) es → take (length (now (objects .entry))) (now (rows .exit)) ≡ rowsOf (now (objects .entry)) es) × (length (now (rows .exit)) ≡ 16) ⌝ }
+{
+    let mut k: usize = 0;
+    while k < objects.len() {
+        let object = objects[k] as usize;
+        rows[k] = index[object] as usize;
         k += 1;
     }
 }

@@ -35,22 +35,17 @@ either-right : (a b : Bool) → either a b ≡ false → b ≡ false
 either-right true b e = clash e
 either-right false b e = e
 
-either-swap : (a b c d : Bool) → either (either a b) (either c d) ≡ either (either a c) (either b d)
-either-swap true b c d = refl
-either-swap false true true d = refl
-either-swap false true false d = refl
-either-swap false false c d = refl
+either-turned : (a b : Bool) → either a b ≡ either b a
+either-turned true true = refl
+either-turned true false = refl
+either-turned false true = refl
+either-turned false false = refl
 
-either-turn : (a b c : Bool) → either a (either b c) ≡ either (either b a) c
-either-turn true true c = refl
-either-turn true false c = refl
-either-turn false true c = refl
-either-turn false false c = refl
-
-either-flat : (a b c d : Bool) → either (either a (either b c)) d ≡ either a (either b (either c d))
-either-flat true b c d = refl
-either-flat false true c d = refl
-either-flat false false c d = refl
+either-flat : (a b c d e : Bool) → either a (either b (either c (either d e))) ≡ either (either a (either b c)) (either e d)
+either-flat true b c d e = refl
+either-flat false true c d e = refl
+either-flat false false true d e = refl
+either-flat false false false d e = either-turned d e
 
 -- where none passes, the one at i does not
 any-at : {A : Type 0} (f : A → Bool) (n : ℕ) (l : List A) (i : ℕ) (d : A) → i < n → n ≤ length l → anyB f (take n l) ≡ false → f (getD l i d) ≡ false
@@ -59,38 +54,7 @@ any-at f (suc n) [] i d h k e = absurd (omega arith)
 any-at f (suc n) (x ∷ xs) zero d h k e = either-left (f x) (anyB f (take n xs)) e
 any-at f (suc n) (x ∷ xs) (suc i) d h k e = any-at f n xs i d (omega arith) (omega arith) (either-right (f x) (anyB f (take n xs)) e)
 
--- ---- objects met again: seen marks those met before
-abbrev pub again : List Bool → List ℕ → Bool
-again seen os = either (anyB (λ o. getD seen o false) os) (twiceB os)
-
-module _ (seen : List Bool) (o : ℕ) (h : o < length seen) where
-  mark-at : (x : ℕ) → getD (set seen o true) x false ≡ either (eqb x o) (getD seen x false)
-  mark-at x =
-      by-test (eqb x o)
-      (λ t. rw (t, eqb-true x o t) (getD-set-same seen o true false h))
-      (λ t. rw t (getD-set-other seen o x true false (eqb-false x o t)))
-
-  mark-any : (os : List ℕ) → anyB (λ x. getD (set seen o true) x false) os ≡ either (elemB o os) (anyB (λ x. getD seen x false) os)
-  mark-any [] = refl
-  mark-any (x ∷ xs) = rw (mark-at x, mark-any xs) (either-swap (eqb x o) (getD seen x false) (elemB o xs) (anyB (λ x. getD seen x false) xs))
-
-  mark-again : (os : List ℕ) → getD seen o false ≡ false → again (set seen o true) os ≡ again seen (o ∷ os)
-  mark-again os e = rw (e, mark-any os) (sym (either-turn (anyB (λ x. getD seen x false) os) (elemB o os) (twiceB os)))
-
--- at the start none is marked
-pub unmarked : (n o : ℕ) → getD (replicate n false) o false ≡ false
-unmarked zero o = refl
-unmarked (suc n) zero = refl
-unmarked (suc n) (suc o) = unmarked n o
-
-pub again-start : (seen : List Bool) → ((o : ℕ) → getD seen o false ≡ false) → (os : List ℕ) → again seen os ≡ twiceB os
-again-start seen h os = rw (none os)
-  where
-    none : (os : List ℕ) → anyB (λ o. getD seen o false) os ≡ false
-    none [] = refl
-    none (x ∷ xs) = rw (h x, none xs)
-
--- what a turn at i finds, and the end, over the objects of the first n entries
+-- ---- objects met again: what a turn at i finds, and the end, over the objects of the first n entries
 abbrev pub objectsOf : ℕ → List Pending → List ℕ
 objectsOf n es = map (λ e. e .object) (take n es)
 
@@ -99,30 +63,17 @@ pub record Turn (n : ℕ) (es : List Pending) (i : ℕ) (e : Pending) : Type 0 w
   pub inside : i < n
   pub entry : e ≡ pendingAt es i
 
-objects-length : (n : ℕ) (es : List Pending) → n ≤ length es → length (objectsOf n es) ≡ n
+pub objects-length : (n : ℕ) (es : List Pending) → n ≤ length es → length (objectsOf n es) ≡ n
 objects-length n es l = length-map (take n es) (λ e. e .object) ∙ length-take-le n es l
 
 module _ {n : ℕ} {es : List Pending} {i : ℕ} {e : Pending} (t : Turn n es i e) where
-  object-at : getD (objectsOf n es) i 0 ≡ e .object
+  pub object-at : getD (objectsOf n es) i 0 ≡ e .object
   object-at =
       List·getD-map (λ (e : Pending). e .object) (take n es) i (pendingOf [])
       ∙ ap (λ e. e .object) (getD-take n es i (pendingOf []) (t .inside) ∙ sym (t .entry))
 
-  objects-cons : drop i (objectsOf n es) ≡ e .object ∷ drop (suc i) (objectsOf n es)
-  objects-cons = rw (← object-at) (drop-cons (objectsOf n es) i 0 (rw (objects-length n es (t .rows)) (t .inside)))
-
   pub object-low : anyB (λ (e : Pending). leb 512 (e .object)) (take n es) ≡ false → e .object < 512
   object-low o = leb-false 512 (e .object) (rw (t .entry) (any-at (λ (e : Pending). leb 512 (e .object)) n es i (pendingOf []) (t .inside) (t .rows) o))
-
-  pub again-met : (seen : List Bool) → getD seen (e .object) false ≡ true → again seen (drop i (objectsOf n es)) ≡ true
-  again-met seen m = rw (objects-cons, m)
-
-  pub again-new : (seen : List Bool) → e .object < length seen → getD seen (e .object) false ≡ false
-      → again (set seen (e .object) true) (drop (i + 1) (objectsOf n es)) ≡ again seen (drop i (objectsOf n es))
-  again-new seen g m = rw (add-one, objects-cons) (mark-again seen (e .object) g (drop (suc i) (objectsOf n es)) m)
-
-pub again-end : (n : ℕ) (es : List Pending) → n ≤ length es → (seen : List Bool) (i : ℕ) → n ≤ i → again seen (drop i (objectsOf n es)) ≡ false
-again-end n es l seen i h = let g : length (objectsOf n es) ≤ i = rw (objects-length n es l) h in rw (drop-of-length-le (objectsOf n es) g)
 
 -- ---- snapshots out of order: some test of `ascending_within` fails
 not-both : (a b : Bool) → either (not a) (not b) ≡ not (both a b)
@@ -162,7 +113,7 @@ tested pending past snapshots copies copied h =
     either (anyB (λ e. leb 512 (e .object)) (take (h .pending) (pendings pending)))
     (either (anyB (λ q. leb 512 (q .object)) (take (h .past) (pasts past)))
     (either (anyB (λ c. leb 32 (c .page)) (take (h .copies) (copiesOf (copyHeads copies) copied)))
-    (either (twiceB (objectsOf (h .pending) (pendings pending))) (not (within 0 (h .horizon) (take (h .snapshots) snapshots))))))
+    (either (not (within 0 (h .horizon) (take (h .snapshots) snapshots))) (twiceB (objectsOf (h .pending) (pendings pending))))))
 
 module _ (values stamps : List ℕ) (pending past : List (List ℕ)) (snapshots : List ℕ) (copies : List (List ℕ)) (copied : List ℕ) (h : Heads) where
   over-is : overCount h ≡ overfull (contents values stamps pending past snapshots copies copied h)

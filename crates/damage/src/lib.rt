@@ -1,6 +1,7 @@
 // Damaged, exactly document 01's list: tested for every content of the tables and every value of the heads.
 use tables::CopyTable;
 use tables::Heads;
+use tables::Index;
 use tables::PastTable;
 use tables::PendingTable;
 use tables::Snapshots;
@@ -13,6 +14,7 @@ ghost use lib.Dec.{ltb, leb};
 ghost use Rattle.model.specs.Lists.{either, anyB, twiceB};
 ghost use Rattle.model.specs.Damage as model;
 ghost use Rattle.tables.specs.Rows.{pendings, pasts, copyHeads, copiesOf};
+ghost use Rattle.tables.specs.Lookups.{Indexed};
 ghost use Rattle.tables.specs.Contents.{contents};
 
 // A count is over its limit.
@@ -31,35 +33,33 @@ fn overfull(h: Heads) -> bool
     128 < h.copies
 }
 
-// An object number is out of range.
+// An object number is out of range. A limit that is a power of two is kept by all numbers just when it is kept by their join.
 fn pending_out(t: &PendingTable, n: usize) -> bool
     requires { ⌜ (n ≤ 128) × (length (pendings (now t)) ≡ 128) ⌝ }
     ensures { λ r. ⌜ r ≡ anyB (λ e. leb 512 (e .object)) (take n (pendings (now (t .entry)))) ⌝ }
 {
+    let mut objects: u64 = 0;
     let mut i: usize = 0;
     while i < n {
         let e = tables::pending_at(t, i);
-        if 512 <= e.object {
-            return true;
-        }
+        objects = objects | e.object;
         i += 1;
     }
-    false
+    512 <= objects
 }
 
 fn past_out(t: &PastTable, n: usize) -> bool
     requires { ⌜ (n ≤ 256) × (length (pasts (now t)) ≡ 256) ⌝ }
     ensures { λ r. ⌜ r ≡ anyB (λ q. leb 512 (q .object)) (take n (pasts (now (t .entry)))) ⌝ }
 {
+    let mut all: u64 = 0;
     let mut i: usize = 0;
     while i < n {
         let q = tables::past_at(t, i);
-        if 512 <= q.object {
-            return true;
-        }
+        all = all | q.object;
         i += 1;
     }
-    false
+    512 <= all
 }
 
 // A page number is out of range.
@@ -67,52 +67,45 @@ fn copies_out(t: &CopyTable, n: usize) -> bool
     requires { ⌜ (n ≤ 128) × (length (copyHeads (now t)) ≡ 128) ⌝ }
     ensures { λ r. ⌜ ((words : List ℕ) → r ≡ anyB (λ c. leb 32 (c .page)) (take n (copiesOf (copyHeads (now (t .entry))) words))) ⌝ }
 {
+    let mut pages: u64 = 0;
     let mut i: usize = 0;
     while i < n {
         let c = tables::copy_at(t, i);
-        if 32 <= c.page {
-            return true;
-        }
+        pages = pages | c.page;
         i += 1;
     }
-    false
+    32 <= pages
 }
 
-// Two of the entries are of one object; seen marks the objects met so far.
-fn met_again(t: &PendingTable, n: usize, seen: &mut [bool; 512]) -> bool
-    requires { ⌜ (n ≤ 128) × (length (pendings (now t)) ≡ 128) × (anyB (λ e. leb 512 (e .object)) (take n (pendings (now t))) ≡ false) × (length (now seen) ≡ 512) × ((o : ℕ) → getD (now seen) o false ≡ false) ⌝ }
-    ensures { λ r. ⌜ r ≡ twiceB (map (λ e. e .object) (take n (pendings (now (t .entry))))) ⌝ }
+// Two of the entries are of one object; where none are, the index tells the row of each object's entry.
+fn met_again(t: &PendingTable, n: usize, index: &mut Index) -> bool
+    requires { ⌜ (n ≤ 128) × (length (pendings (now t)) ≡ 128) × (anyB (λ e. leb 512 (e .object)) (take n (pendings (now t))) ≡ false) × (length (now index) ≡ 512) × ((o : ℕ) → getD (now index) o 128 ≡ 128) ⌝ }
+    ensures { λ r. ⌜ (r ≡ twiceB (map (λ e. e .object) (take n (pendings (now (t .entry)))))) × (r ≡ false → Indexed (now (index .exit)) (take n (pendings (now (t .entry))))) ⌝ }
 {
     let mut i: usize = 0;
     while i < n {
         let e = tables::pending_at(t, i);
         let object = e.object as usize;
-        if seen[object] {
+        if index[object] < 128 {
             return true;
         }
-        seen[object] = true;
+        index[object] = i as u8;
         i += 1;
     }
     false
 }
 
-fn doubled(t: &PendingTable, n: usize) -> bool
-    requires { ⌜ (n ≤ 128) × (length (pendings (now t)) ≡ 128) × (anyB (λ e. leb 512 (e .object)) (take n (pendings (now t))) ≡ false) ⌝ }
-    ensures { λ r. ⌜ r ≡ twiceB (map (λ e. e .object) (take n (pendings (now (t .entry))))) ⌝ }
-{
-    let mut seen = [false; 512];
-    met_again(t, n, &mut seen)
-}
-
-pub fn damaged(
+// Damaged; where it is not, the index tells the row of each object's entry. It comes with 128 for every object.
+pub fn damaged_or_indexed(
     pending: &PendingTable,
     past: &PastTable,
     snapshots: &Snapshots,
     copies: &CopyTable,
     h: Heads,
+    index: &mut Index,
 ) -> bool
-    requires { ⌜ (length (pendings (now pending)) ≡ 128) × (length (pasts (now past)) ≡ 256) × (length (now snapshots) ≡ 64) × (length (copyHeads (now copies)) ≡ 128) ⌝ }
-    ensures { λ r. ⌜ ((values stamps copied : List ℕ) → r ≡ model.damaged (contents values stamps (now (pending .entry)) (now (past .entry)) (now (snapshots .entry)) (now (copies .entry)) copied h)) ⌝ }
+    requires { ⌜ (length (pendings (now pending)) ≡ 128) × (length (pasts (now past)) ≡ 256) × (length (now snapshots) ≡ 64) × (length (copyHeads (now copies)) ≡ 128) × (length (now index) ≡ 512) × ((o : ℕ) → getD (now index) o 128 ≡ 128) ⌝ }
+    ensures { λ r. ⌜ ((values stamps copied : List ℕ) → r ≡ model.damaged (contents values stamps (now (pending .entry)) (now (past .entry)) (now (snapshots .entry)) (now (copies .entry)) copied h)) × (r ≡ false → Indexed (now (index .exit)) (take (h .pending) (pendings (now (pending .entry))))) ⌝ }
 {
     if overfull(h) {
         return true;
@@ -126,11 +119,24 @@ pub fn damaged(
     if copies_out(copies, h.copies) {
         return true;
     }
-    if doubled(pending, h.pending) {
-        return true;
-    }
     let n = h.snapshots;
     let known = &snapshots[..];
-    let ordered = rules::ascending_within(0, h.horizon, &known[..n]);
-    !ordered
+    if !rules::ascending_within(0, h.horizon, &known[..n]) {
+        return true;
+    }
+    met_again(pending, h.pending, index)
+}
+
+pub fn damaged(
+    pending: &PendingTable,
+    past: &PastTable,
+    snapshots: &Snapshots,
+    copies: &CopyTable,
+    h: Heads,
+) -> bool
+    requires { ⌜ (length (pendings (now pending)) ≡ 128) × (length (pasts (now past)) ≡ 256) × (length (now snapshots) ≡ 64) × (length (copyHeads (now copies)) ≡ 128) ⌝ }
+    ensures { λ r. ⌜ ((values stamps copied : List ℕ) → r ≡ model.damaged (contents values stamps (now (pending .entry)) (now (past .entry)) (now (snapshots .entry)) (now (copies .entry)) copied h)) ⌝ }
+{
+    let mut index = [128u8; 512];
+    damaged_or_indexed(pending, past, snapshots, copies, h, &mut index)
 }

@@ -1,9 +1,10 @@
 // The Shape and Twice rules for the lists of a change. The calls judge their arguments by them, and the journal's reader its records.
 ghost use mathlib.Core.Path.{_≡_};
-ghost use Prim.Native.Nat.{_≤_};
+ghost use mathlib.Core.Bool.{true, false};
+ghost use Prim.Native.Nat.{ℕ, _≤_};
 ghost use lib.Dec.{ltb, leb};
-ghost use lib.ListN.{length, drop};
-ghost use Rattle.model.specs.Lists.{both, allB, elemB, twiceB, risingFrom};
+ghost use lib.ListN.{length, getD};
+ghost use Rattle.model.specs.Lists.{both, allB, twiceB, risingFrom};
 ghost use Rattle.model.specs.Judgement.{objectsShaped, stampsShaped};
 
 // Every object is one of the store's.
@@ -32,16 +33,18 @@ pub fn objects_shaped(objects: &[u64]) -> bool
     all_objects(objects)
 }
 
-// The object stands in the list from a place on.
-fn named_from(objects: &[u64], from: usize, object: u64) -> bool
-    requires { ⌜ «from» ≤ length (now objects) ⌝ }
-    ensures { λ r. ⌜ r ≡ elemB object (drop «from» (now (objects .entry))) ⌝ }
+// Some object is met again; seen marks those met so far.
+fn met_again(objects: &[u64], seen: &mut [bool; 512]) -> bool
+    requires { ⌜ (allB (λ o. ltb o 512) (now objects) ≡ true) × (length (now seen) ≡ 512) × ((o : ℕ) → getD (now seen) o false ≡ false) ⌝ }
+    ensures { λ r. ⌜ r ≡ twiceB (now (objects .entry)) ⌝ }
 {
-    let mut i = from;
+    let mut i: usize = 0;
     while i < objects.len() {
-        if objects[i] == object {
+        let object = objects[i] as usize;
+        if seen[object] {
             return true;
         }
+        seen[object] = true;
         i += 1;
     }
     false
@@ -49,21 +52,16 @@ fn named_from(objects: &[u64], from: usize, object: u64) -> bool
 
 // Some object is named twice.
 pub fn named_twice(objects: &[u64]) -> bool
+    requires { ⌜ allB (λ o. ltb o 512) (now objects) ≡ true ⌝ }
     ensures { λ r. ⌜ r ≡ twiceB (now (objects .entry)) ⌝ }
 {
-    let mut i: usize = 0;
-    while i < objects.len() {
-        let object = objects[i];
-        i += 1;
-        if named_from(objects, i, object) {
-            return true;
-        }
-    }
-    false
+    let mut seen = [false; 512];
+    met_again(objects, &mut seen)
 }
 
-// Strictly ascending, and each with prev < stamp <= curr.
+// Strictly ascending, and each with prev < stamp <= curr: the last one is the largest.
 pub fn ascending_within(prev: u64, curr: u64, stamps: &[u64]) -> bool
+    requires { ⌜ prev ≤ curr ⌝ }
     ensures { λ r. ⌜ r ≡ both (risingFrom prev (now (stamps .entry))) (allB (λ s. leb s curr) (now (stamps .entry))) ⌝ }
 {
     let mut below = prev;
@@ -73,13 +71,10 @@ pub fn ascending_within(prev: u64, curr: u64, stamps: &[u64]) -> bool
         if stamp <= below {
             return false;
         }
-        if curr < stamp {
-            return false;
-        }
         below = stamp;
         i += 1;
     }
-    true
+    below <= curr
 }
 
 pub fn stamps_shaped(prev: u64, curr: u64, stamps: &[u64]) -> bool

@@ -3,7 +3,7 @@ use Prim.Native.Nat.{ℕ, suc, _<_}
 use mathlib.Core.Path.{_≡_}
 use mathlib.Core.Bool.{Bool, true, false, not}
 use mathlib.Core.List.{List, [], _∷_}
-use lib.ListN.{getD, take}
+use lib.ListN.{length, getD, take}
 use lib.Dec.{ltb, eqb}
 use Rattle.model.specs.declared.Pending.{Pending}
 use Rattle.model.specs.declared.Past.{Past}
@@ -26,6 +26,16 @@ firstAt f (x ∷ xs) k = pickFound (f x) (At k) (firstAt f xs (suc k))
 
 abbrev pub findPending : ℕ → List Pending → Found
 findPending o es = firstAt (λ e. eqb (e .object) o) es 0
+
+-- 128 where the object has no entry
+abbrev pub rowOf : Found → ℕ
+rowOf (At i) = i
+rowOf Nothing = 128
+
+-- the row of each object's entry
+pub record Indexed (index : List ℕ) (es : List Pending) : Type 0 where
+  pub objects-in : length index ≡ 512
+  pub row-at : (o : ℕ) → o < 512 → getD index o 0 ≡ rowOf (findPending o es)
 
 -- the copy that an index names
 abbrev pub servedAt : Found → List Copy → Served

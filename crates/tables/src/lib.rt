@@ -28,6 +28,9 @@ pub type CopyTable = [[u64; 2]; 128];
 // Sixteen words for each copy.
 pub type Copied = [u64; 2048];
 
+// For each object the row of its pending entry, 128 where it has none.
+pub type Index = [u8; 512];
+
 // The counts of the tables, the horizon and the last commit.
 #[repr(C)]
 pub struct Heads {

@@ -1,7 +1,7 @@
 -- `row_of` answers the row of what the search found.
 use mathlib.Core.Path.{_∙_, sym, ap}
 use borrow.Author.Needs.{needs}
-use Rattle.commits.specs.Rows.{rowOf}
+use Rattle.tables.specs.Lookups.{rowOf}
 use Rattle.commits.proofs.row_of.Statement.{statement}
 use Rattle.commits.proofs.row_of.Tie as tie
 

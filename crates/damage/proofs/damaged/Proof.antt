@@ -1,119 +1,15 @@
--- Each test that hits settles it, by the model's order of the same tests; past them all, the snapshots' order is the answer.
-use Prim.Native.Nat.{ℕ}
-use mathlib.Core.Path.{_≡_, _∙_, sym, ap}
-use mathlib.Core.Bool.{Bool, false, not}
-use mathlib.Core.List.{List}
-use native.Mathlib.Omega.{arith}
-use lib.ListN.{take}
-use lib.Dec.{leb}
-use lib.Seq.{length-take-le}
+-- The index is of no further use here.
+use mathlib.Core.Path.{refl}
 use borrow.Author.Needs.{needs}
-use Rattle.model.specs.Lists.{anyB}
-use Rattle.model.specs.Damage.{damaged}
-use Rattle.model.specs.Store.{Store}
-use Rattle.tables.specs.Rows.{pendings}
-use Rattle.tables.specs.Contents.{contents, Counted}
-use Rattle.damage.proofs.Laws.{hit, pass, counted, tested, damaged-over, damaged-is}
+use Rattle.rules.proofs.Marks.{blank-at}
 use Rattle.damage.proofs.damaged.Statement.{statement}
 use Rattle.damage.proofs.damaged.Tie as tie
 
--- what the tables hold, and the tests that are left once the counts are within their limits
-abbrev held : tie.Start → List ℕ → List ℕ → List ℕ → Store
-held c values stamps copied =
-    let a = c .args in
-    contents values stamps (a .pending .now) (a .past .now) (a .snapshots .now) (a .copies .now) copied (a .h)
-
-abbrev left : tie.Start → List ℕ → Bool
-left c copied = let a = c .args in tested (a .pending .now) (a .past .now) (a .snapshots .now) (a .copies .now) copied (a .h)
-
--- the counts are within their limits
-fit : (c : tie.Else1) → Counted (c .before .before .args .h)
-fit c = counted (c .before .before .args .h) (sym (c .before .overfull .ensures) ∙ c .if1 .left)
-
--- what the tests that are left answer is the model's answer
-whole : (c : tie.Else1) (values stamps copied : List ℕ) {r : Bool} → r ≡ left (c .before .before) copied → r ≡ damaged (held (c .before .before) values stamps copied)
-whole c values stamps copied e =
-    let a = c .before .before .args in
-    let p = c .before .before .pre in
-    e ∙ damaged-is values stamps (a .pending .now) (a .past .now) (a .snapshots .now) (a .copies .now) copied (a .h) (p .0) (p .1) (p .2) (p .3) (sym (c .before .overfull .ensures) ∙ c .if1 .left)
-
-overfull-requires : tie.Need-overfull-requires
-overfull-requires c κs = search needs
+damaged-or-indexed-requires : tie.Need-damaged-or-indexed-requires
+damaged-or-indexed-requires c κs = let p = c .before .pre in (p .0, p .1, p .2, p .3, refl, blank-at 128 512)
 
 returns : tie.Need-returns
-returns c values stamps copied =
-    let a = c .before .before .args in
-    damaged-over values stamps (a .pending .now) (a .past .now) (a .snapshots .now) (a .copies .now) copied (a .h) (sym (c .before .overfull .ensures) ∙ c .if1 .taken)
-
-pending-out-requires : tie.Need-pending-out-requires
-pending-out-requires c κs = (fit c .pending-count, c .before .before .pre .0)
-
--- no pending object is out of range
-no-pending : (c : tie.Else2) → anyB (λ e. leb 512 (e .object)) (take (c .before .before .before .before .args .h .pending) (pendings (c .before .before .before .before .args .pending .now))) ≡ false
-no-pending c = sym (c .before .pending-out .ensures) ∙ c .if2 .left
-
-returns-2 : tie.Need-returns-2
-returns-2 c values stamps copied = whole (c .before .before) values stamps copied (hit _ (sym (c .before .pending-out .ensures) ∙ c .if2 .taken))
-
-past-out-requires : tie.Need-past-out-requires
-past-out-requires c κs = (omega (arith, fit (c .before .before) .past-count), c .before .before .before .before .pre .1)
-
-returns-3 : tie.Need-returns-3
-returns-3 c values stamps copied =
-    whole (c .before .before .before .before) values stamps copied
-    (pass (no-pending (c .before .before)) (hit _ (sym (c .before .past-out .ensures) ∙ c .if3 .taken)))
-
-copies-out-requires : tie.Need-copies-out-requires
-copies-out-requires c κs = (fit (c .before .before .before .before) .copy-count, c .before .before .before .before .before .before .pre .3)
-
-returns-4 : tie.Need-returns-4
-returns-4 c values stamps copied =
-    whole (c .before .before .before .before .before .before) values stamps copied
-    (pass (no-pending (c .before .before .before .before))
-    (pass (sym (c .before .before .before .past-out .ensures) ∙ c .before .before .if3 .left)
-    (hit _ (sym (c .before .copies-out .ensures copied) ∙ c .if4 .taken))))
-
-doubled-requires : tie.Need-doubled-requires
-doubled-requires c κs = (fit (c .before .before .before .before .before .before) .pending-count, c .before .before .before .before .before .before .before .before .pre .0, no-pending (c .before .before .before .before))
-
-returns-5 : tie.Need-returns-5
-returns-5 c values stamps copied =
-    whole (c .before .before .before .before .before .before .before .before) values stamps copied
-    (pass (no-pending (c .before .before .before .before .before .before))
-    (pass (sym (c .before .before .before .before .before .past-out .ensures) ∙ c .before .before .before .before .if3 .left)
-    (pass (sym (c .before .before .before .copies-out .ensures copied) ∙ c .before .before .if4 .left)
-    (hit _ (sym (c .before .doubled .ensures) ∙ c .if5 .taken)))))
-
-slice-aggregate-ascending-within : tie.Need-slice-aggregate-ascending-within
-slice-aggregate-ascending-within c =
-    let a = c .before .before .before .before .before .before .before .before .before .before .before .before .args in
-    sym (length-take-le (a .h .snapshots) (a .snapshots .now) (omega (arith, fit (c .before .before .before .before .before .before .before .before .before .before) .snapshot-count, c .before .before .before .before .before .before .before .before .before .before .before .before .pre .2)))
-
-ascending-within-requires : tie.Need-ascending-within-requires
-ascending-within-requires c κs = search needs
-
-returns-6 : tie.Need-returns-6
-returns-6 c values stamps copied =
-    whole (c .before .before .before .before .before .before .before .before .before .before .before) values stamps copied
-    (pass (no-pending (c .before .before .before .before .before .before .before .before .before))
-    (pass (sym (c .before .before .before .before .before .before .before .before .past-out .ensures) ∙ c .before .before .before .before .before .before .before .if3 .left)
-    (pass (sym (c .before .before .before .before .before .before .copies-out .ensures copied) ∙ c .before .before .before .before .before .if4 .left)
-    (pass (sym (c .before .before .before .before .doubled .ensures) ∙ c .before .before .before .if5 .left) (ap not (c .ascending-within .ensures))))))
+returns c = search needs
 
 pub damaged-spec : {M : Type 1} → statement M
-damaged-spec =
-    tie.close
-    (tie.spec
-    overfull-requires
-    returns
-    pending-out-requires
-    returns-2
-    past-out-requires
-    returns-3
-    copies-out-requires
-    returns-4
-    doubled-requires
-    returns-5
-    slice-aggregate-ascending-within
-    ascending-within-requires
-    returns-6)
+damaged-spec = tie.close (tie.spec damaged-or-indexed-requires returns)

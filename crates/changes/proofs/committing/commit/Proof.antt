@@ -5,7 +5,7 @@ use native.Mathlib.Omega.{arith}
 use Prim.Native.Nat.{_≤_}
 use mathlib.Core.Path.{_≡_, refl, _∙_, sym}
 use mathlib.Core.Bool.{Bool, true, false}
-use lib.ListN.{length}
+use lib.ListN.{length, take}
 use lib.Dec.{eqb}
 use Rattle.model.specs.Answers.{codeOf}
 use Rattle.model.specs.Lists.{both}
@@ -14,6 +14,10 @@ use Rattle.model.specs.Damage.{damaged}
 use Rattle.model.specs.Changes.{Change, commit, paired}
 use Rattle.model.specs.Judgement.{objectsShaped, shaped, twice, judge}
 use Rattle.model.specs.Calls.{journalShaped, roomed}
+use Rattle.rules.proofs.Laws.{shaped-low}
+use Rattle.rules.proofs.Marks.{blank-at}
+use Rattle.tables.specs.Rows.{pendings}
+use Rattle.tables.specs.Lookups.{Indexed}
 use Rattle.tables.specs.Contents.{contents, Laid}
 use Rattle.commits.specs.Promises.{Ready}
 use Rattle.commits.proofs.Judged.{accepted-room}
@@ -35,7 +39,7 @@ abbrev back4 : tie.Else4 → tie.Else3
 back4 c = c .before .before .before .before .before .before .before .before .before .before
 
 abbrev start1 : tie.Else1 → tie.Start
-start1 c = c .before .before .before .before .before .before .before .before .before .before .before .before .before .before .before
+start1 c = c .before .before .before .before .before .before .before .before .before .before .before .before .before .before .before .before
 
 abbrev start2 : tie.Else2 → tie.Start
 start2 c = start1 (back2 c)
@@ -56,12 +60,12 @@ pairs s = let a = s .args in eqb (length (a .objects .now)) (length (a .values .
 laid-requires : tie.Need-laid-requires
 laid-requires c κs = search needs
 
-damaged-requires : tie.Need-damaged-requires
-damaged-requires c κs = search needs
+damaged-or-indexed-requires : tie.Need-damaged-or-indexed-requires
+damaged-or-indexed-requires c κs = let l = c .before .before .before .laid .ensures in (l .pending-rows, l .past-rows, l .snapshot-words, l .copy-rows, refl, blank-at 128 512)
 
 -- what the first test found
-found : (c : tie.After-damaged) → damaged (store (c .before .before .before .before .before .before .before .before .before .before .before .before .before .before)) ≡ c .damaged .result
-found c = let a = c .before .before .before .before .before .before .before .before .before .before .before .before .before .before .args in sym (c .damaged .ensures (a .disk .now) (a .dated .now) (a .copied .now))
+found : (c : tie.After-damaged-or-indexed) → damaged (store (c .before .before .before .before .before .before .before .before .before .before .before .before .before .before .before)) ≡ c .damaged-or-indexed .result
+found c = let a = c .before .before .before .before .before .before .before .before .before .before .before .before .before .before .before .args in sym (c .damaged-or-indexed .ensures .0 (a .disk .now) (a .dated .now) (a .copied .now))
 
 returns : tie.Need-returns
 returns c = left-damaged _ _ _ _ _ (found (c .before) ∙ c .if1 .taken)
@@ -71,7 +75,7 @@ whole : (c : tie.Else1) → damaged (store (start1 c)) ≡ false
 whole c = found (c .before) ∙ c .if1 .left
 
 rows : (c : tie.Else1) → let a = start1 c .args in Laid (a .disk .now) (a .dated .now) (a .pending .now) (a .past .now) (a .snapshots .now) (a .copies .now) (a .copied .now)
-rows c = c .before .before .before .before .laid .ensures
+rows c = c .before .before .before .before .before .laid .ensures
 
 sound : (c : tie.Else1) → let a = start1 c .args in Undamaged (a .pending .now) (a .copies .now) (a .h)
 sound c =
@@ -86,7 +90,7 @@ same-length c = search needs
 
 returns-2 : tie.Need-returns-2
 returns-2 c =
-    let a = c .before .before .before .before .before .before .before .before .before .before .before .before .before .before .before .before .before .before .args in
+    let a = start1 (c .before .before .before) .args in
     left-shape _ _ _ _ _ (whole (c .before .before .before)) (commit-formed (a .objects .now) (a .values .now) _ ∙ sym (c .before .commit-shaped .ensures) ∙ not-true _ (c .if2 .taken))
 
 -- past the second the lists and the journal are in shape
@@ -110,7 +114,7 @@ made-twice : (c : tie.After-named-twice) → twice (made (start2 (c .before))) �
 made-twice c = let a = start2 (c .before) .args in commit-twice (a .objects .now) (a .values .now) (even (c .before)) (a .t) ∙ sym (c .named-twice .ensures)
 
 named-twice-requires : tie.Need-named-twice-requires
-named-twice-requires c κs = search needs
+named-twice-requires c κs = shaped-low _ (fine c .shaped)
 
 same-length-2 : tie.Need-same-length-2
 same-length-2 c = search needs
@@ -122,13 +126,20 @@ returns-3 c = left-twice _ _ _ _ _ (whole (c .before .before .before .before .be
 passed : (c : tie.Else3) → let a = start3 c .args in Passed (store (start3 c)) (a .journal .now) (a .used .at) (pairs (start3 c)) (made (start3 c))
 passed c = record { whole = whole (back2 (back3 c)); formed = made-shaped (back3 c); once = made-twice (c .before) ∙ c .if3 .left }
 
-find-rows-requires : tie.Need-find-rows-requires
-find-rows-requires c κs =
+-- the index tells the row of each object's entry
+indexed : (c : tie.Else3) → let a = start3 c .args in Indexed (c .before .before .before .before .before .before .damaged-or-indexed .last .1 .1 .1 .1 .1 .0) (take (a .h .pending) (pendings (a .pending .now)))
+indexed c = let e = back2 (back3 c) in e .before .damaged-or-indexed .ensures .1 (e .if1 .left)
+
+slice-aggregate-rows-by-index : tie.Need-slice-aggregate-rows-by-index
+slice-aggregate-rows-by-index c = sym (indexed (c .before) .objects-in)
+
+rows-by-index-requires : tie.Need-rows-by-index-requires
+rows-by-index-requires c κs =
     let e = back3 (c .before .before) in
-    (sound (back2 e) .counted .pending-count, rows (back2 e) .pending-rows, short e, refl)
+    (indexed (c .before .before) .objects-in, shaped-low _ (fine e .shaped), short e, refl)
 
 -- the judge and the writer have what they ask
-ready : (c : tie.After-find-rows) → let a = start3 (c .before .before .before) .args in Ready (a .pending .now) (a .snapshots .now) (a .copies .now) (a .h) (a .objects .now) (c .find-rows .last .1 .1 .1 .0)
+ready : (c : tie.After-rows-by-index) → let a = start3 (c .before .before .before) .args in Ready (a .pending .now) (a .snapshots .now) (a .copies .now) (a .h) (a .objects .now) (c .rows-by-index .last .1 .1 .0)
 ready c =
     let e = back3 (c .before .before .before) in
     let l = rows (back2 e) in
@@ -139,8 +150,8 @@ ready c =
       counted = sound (back2 e) .counted;
       short = short e;
       once = sym (c .before .before .before .before .named-twice .ensures) ∙ c .before .before .before .if3 .left;
-      room-for-rows = c .find-rows .ensures .1;
-      found = c .find-rows .ensures .0;
+      room-for-rows = c .rows-by-index .ensures .1;
+      found = c .rows-by-index .ensures .0 _ (indexed (c .before .before .before));
     }
 
 judge-commit-requires : tie.Need-judge-commit-requires
@@ -214,7 +225,7 @@ commit-spec =
     tie.close
     (tie.spec
     laid-requires
-    damaged-requires
+    damaged-or-indexed-requires
     returns
     commit-shaped-requires
     same-length
@@ -222,7 +233,8 @@ commit-spec =
     named-twice-requires
     same-length-2
     returns-3
-    find-rows-requires
+    slice-aggregate-rows-by-index
+    rows-by-index-requires
     judge-commit-requires
     mul-settled
     add-settled

@@ -8,6 +8,7 @@ use borrow.Author.Needs.{needs}
 use borrow.Author.Tests.{not-true, not-false}
 use Rattle.model.specs.Bytes.{column}
 use Rattle.model.specs.Judgement.{objectsShaped}
+use Rattle.rules.proofs.Laws.{shaped-low}
 use Rattle.journal.proofs.Walks.{Front, blank-front, filled}
 use Rattle.journal.proofs.walk.objects_good.Statement.{statement}
 use Rattle.journal.proofs.walk.objects_good.Tie as tie
@@ -47,7 +48,7 @@ returns : tie.Need-returns
 returns c = rw (shaped (c .before) ∙ not-true _ (c .if1 .taken))
 
 named-twice-requires : tie.Need-named-twice-requires
-named-twice-requires c κs = search needs
+named-twice-requires c κs = shaped-low _ (sym (c .before .objects-shaped .ensures) ∙ not-false _ (c .if1 .left))
 
 returns-2 : tie.Need-returns-2
 returns-2 c =

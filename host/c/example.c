@@ -1,0 +1,94 @@
+/* The first items of the scope document's worked night, through the C header. At this folder:
+ *
+ *     cc -std=c99 -Wall -Wextra -Werror example.c ../../target/staticlib/librepository.a -o example
+ *     ./example
+ */
+#include "jibcradle.h"
+
+#include <inttypes.h>
+#include <stdio.h>
+
+/* Fails to compile where a struct hasn't the size that the library was compiled with. */
+#define SIZE_IS(type, size) typedef char type##_size_is_##size[sizeof(type) == (size) ? 1 : -1]
+SIZE_IS(jibcradle_store, 39472);
+SIZE_IS(jibcradle_heads, 48);
+SIZE_IS(jibcradle_pending, 32);
+SIZE_IS(jibcradle_past, 32);
+SIZE_IS(jibcradle_copy, 16);
+SIZE_IS(jibcradle_moved, 24);
+SIZE_IS(jibcradle_reply, 16);
+SIZE_IS(jibcradle_report, 56);
+
+static jibcradle_store store;
+static uint8_t journal[4096];
+
+/* Prints what a change answered, and hands its place on. */
+static size_t tell(const char *call, jibcradle_moved moved)
+{
+    printf("%-26s code %2" PRIu64 ", number %3" PRIu64 ", place %3zu\n", call, moved.code,
+           moved.number, moved.place);
+    return moved.place;
+}
+
+/* Commits one object. */
+static jibcradle_moved commit_one(size_t used, uint64_t stamp, uint64_t object, uint64_t value)
+{
+    return jibcradle_commit(&store, journal, sizeof journal, used, stamp, &object, 1, &value, 1);
+}
+
+/* Reads a page at a time, and prints what it shows. */
+static void show(uint64_t time, uint64_t page)
+{
+    uint64_t values[JIBCRADLE_SLOTS];
+    jibcradle_reply reply = jibcradle_snapshot_read(&store, time, page, values, JIBCRADLE_SLOTS);
+    printf("read at time %-13" PRIu64 " code %2" PRIu64 ", number %3" PRIu64, time, reply.code,
+           reply.number);
+    if (reply.code == JIBCRADLE_DONE) {
+        printf(", page %" PRIu64 ":", page);
+        for (size_t slot = 0; slot < JIBCRADLE_SLOTS; slot++) {
+            printf(" %" PRIu64, values[slot]);
+        }
+    }
+    printf("\n");
+}
+
+/* Prints the journal's used bytes. */
+static void dump(size_t used)
+{
+    printf("journal:");
+    for (size_t place = 0; place < used; place++) {
+        printf(" %02x", journal[place]);
+    }
+    printf("\n");
+}
+
+/* Prints how the store stands. */
+static void stand(void)
+{
+    jibcradle_report report = jibcradle_standing(&store);
+    printf("standing: code %" PRIu64 ", %" PRIu64 " pending, %" PRIu64 " past, %" PRIu64
+           " snapshots, %" PRIu64 " copies, lag %" PRId64 "\n",
+           report.code, report.pending, report.past, report.snapshots, report.copies, report.lag);
+}
+
+int main(void)
+{
+    const uint64_t snapshot = 105;
+    size_t used = tell("fresh", jibcradle_fresh(&store));
+
+    used = tell("commit 100, object 0 = 7", commit_one(used, 100, 0, 7));
+    dump(used);
+    used = tell("commit 100 again", commit_one(used, 100, 0, 7));
+    used = tell("commit 120, object 0 = 9", commit_one(used, 120, 0, 9));
+    used = tell("gossip 0 to 110 of 105", jibcradle_gossip(&store, journal, sizeof journal, used,
+                                                           0, 110, &snapshot, 1));
+    show(107, 0);
+    show(104, 0);
+    show(111, 0);
+    used = tell("flush page 0", jibcradle_flush(&store, journal, sizeof journal, used, 0));
+    used = tell("flush page 0 again", jibcradle_flush(&store, journal, sizeof journal, used, 0));
+    stand();
+    tell("restart", jibcradle_restart(&store, journal, used));
+    show(107, 0);
+    return 0;
+}

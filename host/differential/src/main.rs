@@ -1,0 +1,55 @@
+//! Compares the proved store, through its static library, with the independent one: calls by
+//! chance on both, and after each the answers, the journals to the last byte, the page buffers
+//! and all contents of the stores have to be equal. The exit status is 0 only where they are, and
+//! each code that the scope document allows for a call was met.
+
+mod call;
+mod calls;
+mod chance;
+mod contents;
+mod driver;
+mod fault;
+mod journals;
+mod moods;
+mod options;
+mod report;
+mod run;
+mod schedule;
+mod shrink;
+mod sides;
+mod stores;
+mod tally;
+#[cfg(test)]
+mod tests;
+
+use driver::Driver;
+use options::{Options, USAGE};
+use std::process::ExitCode;
+
+fn main() -> ExitCode {
+    let options = match Options::read(std::env::args().skip(1)) {
+        Ok(options) => options,
+        Err(wrong) => {
+            eprintln!("{wrong}\n{USAGE}");
+            return ExitCode::from(2);
+        }
+    };
+    println!("seed {}", options.seed);
+    let seed = options.seed;
+    let mut driver = Driver::new(options);
+    let found = driver.drive();
+    print!("{}", driver.tally);
+    let missing = driver.tally.missing();
+    let differences = u64::from(found.is_some());
+    if let Some(finding) = found {
+        report::tell(seed, &driver, *finding);
+    } else if !missing.is_empty() {
+        println!("never met: {}", missing.join(", "));
+    }
+    println!("differential: {} calls, {differences} differences", driver.calls);
+    if differences == 0 && missing.is_empty() {
+        ExitCode::SUCCESS
+    } else {
+        ExitCode::FAILURE
+    }
+}

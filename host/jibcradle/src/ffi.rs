@@ -1,0 +1,164 @@
+//! The nine calls of the static library, each behind a safe function. All of the crate's `unsafe`
+//! is here.
+//!
+//! Common to all: the library is proved to take every input whatever and to touch no memory but
+//! what it is lent. A lent store is a `repr(C)` struct of integers only, whose layout is checked
+//! below, so that any bytes in it are valid; a lent slice is its pointer and its length. Rust's
+//! borrows see to it that what is lent lives through the call, and that nothing else reaches what
+//! is lent for writing.
+
+#![allow(unsafe_code)]
+
+use crate::answers::{Moved, Reply, Report};
+use crate::store::{Heads, Store};
+use std::mem::{align_of, offset_of, size_of};
+
+// The layout that the library was compiled with.
+const _: () = assert!(size_of::<usize>() == 8 && align_of::<Store>() == 8);
+const _: () = assert!(size_of::<Store>() == 39_472 && size_of::<Heads>() == 48);
+const _: () = assert!(offset_of!(Store, disk) == 0 && offset_of!(Store, dated) == 4_096);
+const _: () = assert!(offset_of!(Store, pending) == 8_192 && offset_of!(Store, past) == 12_288);
+const _: () = assert!(offset_of!(Store, snapshots) == 20_480);
+const _: () = assert!(offset_of!(Store, copies) == 20_992 && offset_of!(Store, copied) == 23_040);
+const _: () = assert!(offset_of!(Store, heads) == 39_424);
+const _: () = assert!(size_of::<Moved>() == 24 && size_of::<Reply>() == 16);
+const _: () = assert!(size_of::<Report>() == 56);
+
+extern "C" {
+    fn jibcradle_fresh(store: *mut Store) -> Moved;
+    fn jibcradle_restart(store: *mut Store, journal: *const u8, length: usize) -> Moved;
+    fn jibcradle_commit(
+        store: *mut Store,
+        journal: *mut u8,
+        length: usize,
+        used: usize,
+        t: u64,
+        objects: *const u64,
+        object_count: usize,
+        values: *const u64,
+        value_count: usize,
+    ) -> Moved;
+    fn jibcradle_gossip(
+        store: *mut Store,
+        journal: *mut u8,
+        length: usize,
+        used: usize,
+        prev: u64,
+        curr: u64,
+        stamps: *const u64,
+        stamp_count: usize,
+    ) -> Moved;
+    fn jibcradle_flush(
+        store: *mut Store,
+        journal: *mut u8,
+        length: usize,
+        used: usize,
+        page: u64,
+    ) -> Moved;
+    fn jibcradle_snapshot_read(
+        store: *const Store,
+        time: u64,
+        page: u64,
+        buffer: *mut u64,
+        length: usize,
+    ) -> Reply;
+    fn jibcradle_clock_read(
+        store: *const Store,
+        tick: u64,
+        page: u64,
+        buffer: *mut u64,
+        length: usize,
+    ) -> Reply;
+    fn jibcradle_current_read(
+        store: *const Store,
+        page: u64,
+        buffer: *mut u64,
+        length: usize,
+    ) -> Reply;
+    fn jibcradle_standing(store: *const Store) -> Report;
+}
+
+pub(crate) fn fresh(store: &mut Store) -> Moved {
+    // SAFETY: the store is lent for writing, and it alone is touched.
+    unsafe { jibcradle_fresh(store) }
+}
+
+pub(crate) fn restart(store: &mut Store, journal: &[u8]) -> Moved {
+    // SAFETY: the store is lent for writing, the journal for reading, with its own length.
+    unsafe { jibcradle_restart(store, journal.as_ptr(), journal.len()) }
+}
+
+pub(crate) fn commit(
+    store: &mut Store,
+    journal: &mut [u8],
+    used: usize,
+    t: u64,
+    objects: &[u64],
+    values: &[u64],
+) -> Moved {
+    // SAFETY: store and journal are lent for writing, the lists for reading, each slice with its
+    // own length. A used length beyond the journal is refused by the library.
+    unsafe {
+        jibcradle_commit(
+            store,
+            journal.as_mut_ptr(),
+            journal.len(),
+            used,
+            t,
+            objects.as_ptr(),
+            objects.len(),
+            values.as_ptr(),
+            values.len(),
+        )
+    }
+}
+
+pub(crate) fn gossip(
+    store: &mut Store,
+    journal: &mut [u8],
+    used: usize,
+    prev: u64,
+    curr: u64,
+    stamps: &[u64],
+) -> Moved {
+    // SAFETY: store and journal are lent for writing, the list for reading, each slice with its
+    // own length. A used length beyond the journal is refused by the library.
+    unsafe {
+        jibcradle_gossip(
+            store,
+            journal.as_mut_ptr(),
+            journal.len(),
+            used,
+            prev,
+            curr,
+            stamps.as_ptr(),
+            stamps.len(),
+        )
+    }
+}
+
+pub(crate) fn flush(store: &mut Store, journal: &mut [u8], used: usize, page: u64) -> Moved {
+    // SAFETY: store and journal are lent for writing, the journal with its own length. A used
+    // length beyond it is refused by the library.
+    unsafe { jibcradle_flush(store, journal.as_mut_ptr(), journal.len(), used, page) }
+}
+
+pub(crate) fn snapshot_read(store: &Store, time: u64, page: u64, buffer: &mut [u64]) -> Reply {
+    // SAFETY: the store is lent for reading, the buffer for writing, with its own length.
+    unsafe { jibcradle_snapshot_read(store, time, page, buffer.as_mut_ptr(), buffer.len()) }
+}
+
+pub(crate) fn clock_read(store: &Store, tick: u64, page: u64, buffer: &mut [u64]) -> Reply {
+    // SAFETY: the store is lent for reading, the buffer for writing, with its own length.
+    unsafe { jibcradle_clock_read(store, tick, page, buffer.as_mut_ptr(), buffer.len()) }
+}
+
+pub(crate) fn current_read(store: &Store, page: u64, buffer: &mut [u64]) -> Reply {
+    // SAFETY: the store is lent for reading, the buffer for writing, with its own length.
+    unsafe { jibcradle_current_read(store, page, buffer.as_mut_ptr(), buffer.len()) }
+}
+
+pub(crate) fn standing(store: &Store) -> Report {
+    // SAFETY: the store is lent for reading, and it alone is touched.
+    unsafe { jibcradle_standing(store) }
+}
