@@ -1,0 +1,36 @@
+-- `standing_line` meets its contract: its parts one behind another are the line.
+use borrow.Author.Needs.{needs}
+use Rattle.answers.specs.Says.{standingLine}
+use Rattle.answers.proofs.Puts.{put-then, said}
+use Rattle.answers.proofs.standing_line.Statement.{statement}
+use Rattle.answers.proofs.standing_line.Tie as tie
+
+room-requires : tie.Need-room-requires
+room-requires c κs = search needs
+
+answered-requires : tie.Need-answered-requires
+answered-requires c κs = search needs
+
+standing-requires : tie.Need-standing-requires
+standing-requires c κs = search needs
+
+slice-aggregate-bytes : tie.Need-slice-aggregate-bytes
+slice-aggregate-bytes c = search needs
+
+bytes-requires : tie.Need-bytes-requires
+bytes-requires c κs = search needs
+
+returns : tie.Need-returns
+unfolding standingLine
+returns c = said (put-then (put-then (c .before .before .before .before .before .answered .ensures .0) (c .before .before .before .standing .ensures .0)) (c .bytes .ensures))
+
+pub standing-line-spec : {M : Type 1} → statement M
+standing-line-spec =
+    tie.close
+    (tie.spec
+    room-requires
+    answered-requires
+    standing-requires
+    slice-aggregate-bytes
+    bytes-requires
+    returns)

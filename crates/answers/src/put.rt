@@ -1,0 +1,186 @@
+// Parts of a line, each appended at a place of the lent bytes. Each function answers the place behind what it wrote.
+use model::Answer;
+use model::Figures;
+ghost use mathlib.Core.Path.{_≡_};
+ghost use mathlib.Core.List.{_∷_, [], _++_};
+ghost use Prim.Native.Nat.{_+_, _*_, _≤_, _<_};
+ghost use lib.IntN.{pos, natAbs};
+ghost use lib.Signed.{_<ℤ_};
+ghost use lib.ListN.{length};
+ghost use Rattle.model.specs.Lists.{pick};
+ghost use Rattle.model.specs.Answers.{isDone};
+ghost use Rattle.answers.specs.Parts.{Put};
+ghost use Rattle.answers.specs.Says.{text as ascii, digit as Says·digit, decimal, spaced, signed, nameOf, answerText, pageText, figuresText, faultText};
+
+// The lent bytes are 512: an array taken by value shows it.
+pub fn room(out: [u8; 512])
+    ensures { λ _. ⌜ length out ≡ 512 ⌝ }
+{}
+
+// The bytes of a text.
+pub fn bytes(out: &mut [u8; 512], at: usize, text: &[u8]) -> usize
+    requires { ⌜ (length (now out) ≡ 512) × (at + length (now text) ≤ 512) ⌝ }
+    ensures { λ r. ⌜ Put (now (text .entry)) (now (out .entry)) at (now (out .exit)) r ⌝ }
+{
+    let mut i: usize = 0;
+    while i < text.len() {
+        out[at + i] = text[i];
+        i += 1;
+    }
+    at + i
+}
+
+fn digit(out: &mut [u8; 512], at: usize, d: u64) -> usize
+    requires { ⌜ (length (now out) ≡ 512) × (at < 512) × (d < 10) ⌝ }
+    ensures { λ r. ⌜ Put (Says·digit d ∷ []) (now (out .entry)) at (now (out .exit)) r ⌝ }
+{
+    out[at] = 48 + d as u8;
+    at + 1
+}
+
+// The digits before the last are those of a tenth. A word has at most 20.
+pub fn number(out: &mut [u8; 512], at: usize, n: u64) -> usize
+    requires { ⌜ (length (now out) ≡ 512) × (at + 21 ≤ 512) ⌝ }
+    ensures { λ r. ⌜ Put (decimal n) (now (out .entry)) at (now (out .exit)) r × (r ≤ at + 20) ⌝ }
+{
+    if n < 10 {
+        return digit(out, at, n);
+    }
+    let next = number(out, at, n / 10);
+    digit(out, next, n % 10)
+}
+
+// A space and the number behind it.
+fn spaced(out: &mut [u8; 512], at: usize, n: u64) -> usize
+    requires { ⌜ (length (now out) ≡ 512) × (at + 22 ≤ 512) ⌝ }
+    ensures { λ r. ⌜ Put (ascii " " ++ decimal n) (now (out .entry)) at (now (out .exit)) r × (r ≤ at + 21) ⌝ }
+{
+    let next = bytes(out, at, b" ");
+    number(out, next, n)
+}
+
+// The numbers, a space in front of each.
+fn words(out: &mut [u8; 512], at: usize, numbers: &[u64]) -> usize
+    requires { ⌜ (length (now out) ≡ 512) × (at + (21 * length (now numbers) + 1) ≤ 512) ⌝ }
+    ensures { λ r. ⌜ Put (spaced (now (numbers .entry))) (now (out .entry)) at (now (out .exit)) r × (r ≤ at + 21 * length (now (numbers .entry))) ⌝ }
+{
+    let mut next = at;
+    let mut i: usize = 0;
+    while i < numbers.len() {
+        next = spaced(out, next, numbers[i]);
+        i += 1;
+    }
+    next
+}
+
+// How far a negative number lies below 0. `!n` is -1 - n, which fits where -n may not.
+fn below(n: i64) -> u64
+    requires { ⌜ n <ℤ pos 0 ⌝ }
+    ensures { λ r. ⌜ r ≡ natAbs n ⌝ }
+{
+    (!n) as u64 + 1
+}
+
+// A number with its sign, where it has one.
+fn lag(out: &mut [u8; 512], at: usize, n: i64) -> usize
+    requires { ⌜ (length (now out) ≡ 512) × (at + 22 ≤ 512) ⌝ }
+    ensures { λ r. ⌜ Put (signed n) (now (out .entry)) at (now (out .exit)) r × (r ≤ at + 21) ⌝ }
+{
+    if n < 0 {
+        let next = bytes(out, at, b"-");
+        return number(out, next, below(n));
+    }
+    number(out, at, n as u64)
+}
+
+// The four counts and the lag, a space in front of each.
+fn figures(out: &mut [u8; 512], at: usize, f: Figures) -> usize
+    requires { ⌜ (length (now out) ≡ 512) × (at + 107 ≤ 512) ⌝ }
+    ensures { λ r. ⌜ Put (figuresText f) (now (out .entry)) at (now (out .exit)) r × (r ≤ at + 106) ⌝ }
+{
+    let counts = [f.pending, f.past, f.snapshots, f.copies];
+    let a = words(out, at, &counts);
+    let b = bytes(out, a, b" ");
+    lag(out, b, f.lag)
+}
+
+fn name(out: &mut [u8; 512], at: usize, answer: Answer) -> usize
+    requires { ⌜ (length (now out) ≡ 512) × (at + 15 ≤ 512) ⌝ }
+    ensures { λ r. ⌜ Put (nameOf answer) (now (out .entry)) at (now (out .exit)) r × (r ≤ at + 15) ⌝ }
+{
+    match answer {
+        Answer::Done(_) => bytes(out, at, b"Done"),
+        Answer::Nothing(_) => bytes(out, at, b"Nothing"),
+        Answer::Damaged => bytes(out, at, b"Damaged"),
+        Answer::Shape => bytes(out, at, b"Shape"),
+        Answer::Twice => bytes(out, at, b"Twice"),
+        Answer::Late(_) => bytes(out, at, b"Late"),
+        Answer::Gap(_) => bytes(out, at, b"Gap"),
+        Answer::Conflict(_) => bytes(out, at, b"Conflict"),
+        Answer::PendingFull => bytes(out, at, b"Pending full"),
+        Answer::PastFull => bytes(out, at, b"Past full"),
+        Answer::SnapshotsFull => bytes(out, at, b"Snapshots full"),
+        Answer::ArchiveFull => bytes(out, at, b"Archive full"),
+        Answer::NoRoom(_) => bytes(out, at, b"No journal room"),
+        Answer::Ahead(_) => bytes(out, at, b"Ahead"),
+        Answer::NoSnapshot => bytes(out, at, b"No snapshot"),
+        Answer::Version(_) => bytes(out, at, b"Version"),
+        Answer::Malformed(_) => bytes(out, at, b"Malformed"),
+        Answer::Contradiction(_) => bytes(out, at, b"Contradiction"),
+    }
+}
+
+// The code, the number, the name.
+pub fn answered(out: &mut [u8; 512], at: usize, answer: Answer) -> usize
+    requires { ⌜ (length (now out) ≡ 512) × (at + 58 ≤ 512) ⌝ }
+    ensures { λ r. ⌜ Put (answerText answer) (now (out .entry)) at (now (out .exit)) r × (r ≤ at + 57) ⌝ }
+{
+    let code = answer.code();
+    let told = answer.number();
+    let a = number(out, at, code);
+    let b = spaced(out, a, told);
+    let c = bytes(out, b, b" ");
+    name(out, c, answer)
+}
+
+// A page's words, where the page was read and there are sixteen of them.
+pub fn page(out: &mut [u8; 512], at: usize, answer: Answer, numbers: &[u64]) -> usize
+    requires { ⌜ (length (now out) ≡ 512) × (at + 337 ≤ 512) ⌝ }
+    ensures { λ r. ⌜ Put (pageText answer (now (numbers .entry))) (now (out .entry)) at (now (out .exit)) r × (r ≤ at + 336) ⌝ }
+{
+    let code = answer.code();
+    if code == 0 {
+        if numbers.len() == 16 {
+            return words(out, at, numbers);
+        }
+        return at;
+    }
+    at
+}
+
+// The figures, where the answer is Done.
+pub fn standing(out: &mut [u8; 512], at: usize, answer: Answer, f: Figures) -> usize
+    requires { ⌜ (length (now out) ≡ 512) × (at + 107 ≤ 512) ⌝ }
+    ensures { λ r. ⌜ Put (pick (isDone answer) (figuresText f) []) (now (out .entry)) at (now (out .exit)) r × (r ≤ at + 106) ⌝ }
+{
+    if answer.code() == 0 {
+        return figures(out, at, f);
+    }
+    at
+}
+
+// What is wrong with a line that is no call.
+pub fn fault(out: &mut [u8; 512], at: usize, number: u64) -> usize
+    requires { ⌜ (length (now out) ≡ 512) × (at + 24 ≤ 512) ⌝ }
+    ensures { λ r. ⌜ Put (faultText number) (now (out .entry)) at (now (out .exit)) r × (r ≤ at + 24) ⌝ }
+{
+    match number {
+        0 => bytes(out, at, b"no such call"),
+        1 => bytes(out, at, b"a word is missing"),
+        2 => bytes(out, at, b"no digit"),
+        3 => bytes(out, at, b"a number of 2^64 or more"),
+        4 => bytes(out, at, b"`=` is missing"),
+        5 => bytes(out, at, b"a word too many"),
+        _ => bytes(out, at, b"not a call"),
+    }
+}

@@ -1,0 +1,398 @@
+// One line served: the call that it is, carried out and answered.
+use crate::file;
+use crate::file::Renewed;
+use crate::help;
+use crate::paths;
+use crate::say;
+use changes::settling::Changed;
+use journal::place::Place;
+use lines::Call;
+use model::Answer;
+use tables::Copied;
+use tables::CopyTable;
+use tables::Disk;
+use tables::Heads;
+use tables::PastTable;
+use tables::PendingTable;
+use tables::Snapshots;
+ghost use Rattle.io.specs.Counts.{Counts};
+
+// What stands between two calls, the tables aside: the journal's file, or -1 in memory, and whether another call is taken.
+pub struct Desk {
+    pub heads: Heads,
+    pub place: Place,
+    pub file: i32,
+    pub going: bool,
+}
+
+impl Desk {
+    // The same store, after an answer that was given or not.
+    fn after(self, going: bool) -> Desk {
+        let heads = self.heads;
+        let place = self.place;
+        Desk {
+            heads,
+            place,
+            file: self.file,
+            going,
+        }
+    }
+}
+
+// A count of list entries, and no more than there are.
+fn entries(count: usize, list: &[u64]) -> usize
+    ensures { λ r. ⌜ Counts r (now (list .entry)) ⌝ }
+{
+    if count <= list.len() {
+        count
+    } else {
+        list.len()
+    }
+}
+
+// Commit, gossip and flush.
+fn change(
+    disk: &mut Disk,
+    dated: &mut Disk,
+    pending: &mut PendingTable,
+    past: &mut PastTable,
+    snapshots: &mut Snapshots,
+    copies: &mut CopyTable,
+    copied: &mut Copied,
+    journal: &mut [u8],
+    desk: Desk,
+    call: Call,
+    firsts: &[u64; 17],
+    seconds: &[u64; 17],
+) -> Changed {
+    let objects = &firsts[..];
+    let values = &seconds[..];
+    let h = desk.heads;
+    let used = desk.place;
+    match call {
+        Call::Commit(stamp, count) => {
+            let t = stamp;
+            let n = entries(count, objects);
+            let m = entries(count, values);
+            changes::committing::commit(
+                disk,
+                dated,
+                pending,
+                past,
+                snapshots,
+                copies,
+                copied,
+                h,
+                journal,
+                used,
+                t,
+                &objects[..n],
+                &values[..m],
+            )
+        }
+        Call::Gossip(prev, curr, count) => {
+            let from = prev;
+            let to = curr;
+            let n = entries(count, objects);
+            changes::gossiping::gossip(
+                disk,
+                dated,
+                pending,
+                past,
+                snapshots,
+                copies,
+                copied,
+                h,
+                journal,
+                used,
+                from,
+                to,
+                &objects[..n],
+            )
+        }
+        Call::Flush(page) => {
+            let p = page;
+            changes::flushing::flush(
+                disk,
+                dated,
+                pending,
+                past,
+                snapshots,
+                copies,
+                copied,
+                h,
+                journal,
+                used,
+                p,
+            )
+        }
+        _ => Changed {
+            heads: h,
+            answer: Answer::Nothing(0),
+            place: used,
+        },
+    }
+}
+
+// A change that was made is answered once its record is in the file.
+fn settled(path: &[u8], journal: &[u8], desk: Desk, done: Changed) -> Desk {
+    let old = desk.place;
+    let new = done.place;
+    let answer = done.answer;
+    if answer.code() == 0 {
+        if !file::is_saved(path, desk.file, journal, old.at, new.at) {
+            return desk.after(false);
+        }
+    }
+    let heads = done.heads;
+    let going = say::answer(answer);
+    Desk {
+        heads,
+        place: new,
+        file: desk.file,
+        going,
+    }
+}
+
+// The reads and standing. False where the answer could not be given.
+fn show(
+    disk: &Disk,
+    dated: &Disk,
+    pending: &PendingTable,
+    past: &PastTable,
+    snapshots: &Snapshots,
+    copies: &CopyTable,
+    copied: &Copied,
+    h: Heads,
+    call: Call,
+) -> bool {
+    let mut words = [0u64; 16];
+    match call {
+        Call::Read(time, page) => {
+            let t = time;
+            let p = page;
+            let answer = reads::snapshot_read(
+                disk,
+                dated,
+                pending,
+                past,
+                snapshots,
+                copies,
+                copied,
+                h,
+                t,
+                p,
+                &mut words,
+            );
+            say::page(answer, &words)
+        }
+        Call::Clock(tick, page) => {
+            let t = tick;
+            let p = page;
+            let answer = reads::clock_read(
+                disk,
+                dated,
+                pending,
+                past,
+                snapshots,
+                copies,
+                copied,
+                h,
+                t,
+                p,
+                &mut words,
+            );
+            say::page(answer, &words)
+        }
+        Call::Now(page) => {
+            let p = page;
+            let answer = reads::current_read(
+                disk,
+                dated,
+                pending,
+                past,
+                snapshots,
+                copies,
+                copied,
+                h,
+                p,
+                &mut words,
+            );
+            say::page(answer, &words)
+        }
+        _ => {
+            let stood = reads::standing(disk, dated, pending, past, snapshots, copies, copied, h);
+            let answer = stood.answer;
+            let figures = stood.figures;
+            say::standing(answer, figures)
+        }
+    }
+}
+
+// Restart from a leading part of the journal, which only a journal in memory allows.
+fn cut(
+    disk: &mut Disk,
+    dated: &mut Disk,
+    pending: &mut PendingTable,
+    past: &mut PastTable,
+    snapshots: &mut Snapshots,
+    copies: &mut CopyTable,
+    copied: &mut Copied,
+    journal: &[u8],
+    desk: Desk,
+    to: usize,
+) -> Desk {
+    let used = desk.place;
+    if 0 <= desk.file {
+        let said = say::text(b"? cut is for a journal in memory\n");
+        return desk.after(said);
+    }
+    if used.at < to {
+        let said = say::refused_beyond(used.at as u64);
+        return desk.after(said);
+    }
+    let n = paths::within(to, journal);
+    let started = restart::restart(
+        disk,
+        dated,
+        pending,
+        past,
+        snapshots,
+        copies,
+        copied,
+        &journal[..n],
+    );
+    let heads = started.heads;
+    let place = started.place;
+    let answer = started.answer;
+    let going = say::answer(answer);
+    Desk {
+        heads,
+        place,
+        file: desk.file,
+        going,
+    }
+}
+
+fn fresh(
+    disk: &mut Disk,
+    dated: &mut Disk,
+    pending: &PendingTable,
+    past: &PastTable,
+    snapshots: &Snapshots,
+    copies: &CopyTable,
+    copied: &Copied,
+    path: &[u8],
+    desk: Desk,
+) -> Desk {
+    let renewed = file::renew(path, desk.file);
+    match renewed {
+        Renewed::File(next) => {
+            let file = next;
+            let started = restart::fresh(disk, dated, pending, past, snapshots, copies, copied);
+            let heads = started.heads;
+            let place = started.place;
+            let answer = started.answer;
+            let going = say::answer(answer);
+            Desk {
+                heads,
+                place,
+                file,
+                going,
+            }
+        }
+        Renewed::Barred => {
+            let said = say::refused(path, b".old is in the way");
+            desk.after(said)
+        }
+        Renewed::Failed => desk.after(false),
+    }
+}
+
+pub fn served(
+    disk: &mut Disk,
+    dated: &mut Disk,
+    pending: &mut PendingTable,
+    past: &mut PastTable,
+    snapshots: &mut Snapshots,
+    copies: &mut CopyTable,
+    copied: &mut Copied,
+    journal: &mut [u8],
+    path: &[u8],
+    desk: Desk,
+    line: &[u8],
+) -> Desk {
+    let mut firsts = [0u64; 17];
+    let mut seconds = [0u64; 17];
+    let call = lines::read_line(line, &mut firsts, &mut seconds);
+    match call {
+        Call::Blank => desk,
+        Call::Help => {
+            let said = help::print();
+            desk.after(said)
+        }
+        Call::Wrong(fault, column) => {
+            let f = fault;
+            let c = column;
+            let said = say::wrong(f, c);
+            desk.after(said)
+        }
+        Call::Fresh => fresh(
+            disk,
+            dated,
+            pending,
+            past,
+            snapshots,
+            copies,
+            copied,
+            path,
+            desk,
+        ),
+        Call::Cut(n) => {
+            let to = n as usize;
+            cut(
+                disk,
+                dated,
+                pending,
+                past,
+                snapshots,
+                copies,
+                copied,
+                journal,
+                desk,
+                to,
+            )
+        }
+        Call::Read(_, _) | Call::Clock(_, _) | Call::Now(_) | Call::Standing => {
+            let said = show(
+                disk,
+                dated,
+                pending,
+                past,
+                snapshots,
+                copies,
+                copied,
+                desk.heads,
+                call,
+            );
+            desk.after(said)
+        }
+        Call::Commit(_, _) | Call::Gossip(_, _, _) | Call::Flush(_) => {
+            let done = change(
+                disk,
+                dated,
+                pending,
+                past,
+                snapshots,
+                copies,
+                copied,
+                journal,
+                desk,
+                call,
+                &firsts,
+                &seconds,
+            );
+            settled(path, journal, desk, done)
+        }
+    }
+}

@@ -1,0 +1,241 @@
+// A store from its start to the end of the input.
+use crate::demo;
+use crate::desk;
+use crate::desk::Desk;
+use crate::file;
+use crate::file::Whole;
+use crate::input;
+use crate::input::Input;
+use crate::lock;
+use crate::paths;
+use crate::say;
+use journal::place::Place;
+use tables::Copied;
+use tables::CopyTable;
+use tables::Disk;
+use tables::Heads;
+use tables::PastTable;
+use tables::PendingTable;
+use tables::Snapshots;
+ghost use lib.ListN.{length};
+ghost use Rattle.io.specs.Counts.{Counts};
+ghost use Rattle.jibcradle.specs.Buffers.{Within};
+
+// Turns of the loop over the input: no input lasts so long.
+const TURNS: u64 = 4611686018427387904;
+
+// No store: the program ends.
+fn closed() -> Desk {
+    Desk {
+        heads: Heads {
+            pending: 0,
+            past: 0,
+            snapshots: 0,
+            copies: 0,
+            horizon: 0,
+            last: 0,
+        },
+        place: Place { at: 0 },
+        file: -1,
+        going: false,
+    }
+}
+
+// The store of a journal that was read: what lies behind its last whole record is cut off the file, since a shorter record written
+// over it would leave a rest; and the file is synced, since a record from before a kill may be in it and not yet there for good.
+fn begun(path: &[u8], file: i32, started: restart::Started) -> Desk {
+    let answer = started.answer;
+    let heads = started.heads;
+    let place = started.place;
+    let desk = Desk {
+        heads,
+        place,
+        file,
+        going: true,
+    };
+    if file < 0 {
+        return desk;
+    }
+    if !say::opened(path, answer) {
+        return closed();
+    }
+    if answer.code() != 0 {
+        return closed();
+    }
+    if !file::is_cut(path, file, place.at) {
+        return closed();
+    }
+    desk
+}
+
+// Restarts from the bytes that were read.
+fn start(
+    disk: &mut Disk,
+    dated: &mut Disk,
+    pending: &mut PendingTable,
+    past: &mut PastTable,
+    snapshots: &mut Snapshots,
+    copies: &mut CopyTable,
+    copied: &mut Copied,
+    journal: &[u8; 65536],
+    whole: Whole,
+    path: &[u8],
+    file: i32,
+) -> Desk {
+    let bytes = &journal[..];
+    match whole {
+        Whole::Failed => closed(),
+        Whole::Bytes(count) => {
+            let n = paths::within(count, bytes);
+            let started = restart::restart(
+                disk,
+                dated,
+                pending,
+                past,
+                snapshots,
+                copies,
+                copied,
+                &bytes[..n],
+            );
+            begun(path, file, started)
+        }
+    }
+}
+
+// The bytes that a journal may have. The one more that is read shows a file that is longer.
+fn room(journal: &[u8; 65536]) -> usize
+    ensures { λ r. ⌜ Counts r (now (journal .entry)) ⌝ }
+{
+    paths::within(65535, &journal[..])
+}
+
+// Serves each line of the input.
+fn run(
+    disk: &mut Disk,
+    dated: &mut Disk,
+    pending: &mut PendingTable,
+    past: &mut PastTable,
+    snapshots: &mut Snapshots,
+    copies: &mut CopyTable,
+    copied: &mut Copied,
+    journal: &mut [u8],
+    path: &[u8],
+    buffer: &mut [u8],
+    begun: Desk,
+    first: Input,
+)
+    requires { ⌜ Within first (length (now buffer)) ⌝ }
+{
+    let mut desk = begun;
+    let mut input = first;
+    let mut turns = TURNS;
+    while 0 < turns {
+        turns -= 1;
+        if !desk.going {
+            return;
+        }
+        if !input.going {
+            return;
+        }
+        let taken = input::take(buffer, input);
+        input = taken.input;
+        let from = taken.from;
+        let to = taken.to;
+        desk = desk::served(
+            disk,
+            dated,
+            pending,
+            past,
+            snapshots,
+            copies,
+            copied,
+            journal,
+            path,
+            desk,
+            &buffer[from..to],
+        );
+    }
+}
+
+// A store from its start to its end. The input is the descriptor's, or the night's where that is -1.
+fn serve(path: &[u8], file: i32, source: i32) {
+    let mut disk = [0u64; 512];
+    let mut dated = [0u64; 512];
+    let mut pending = [[0u64; 4]; 128];
+    let mut past = [[0u64; 4]; 256];
+    let mut snapshots = [0u64; 64];
+    let mut copies = [[0u64; 2]; 128];
+    let mut copied = [0u64; 2048];
+    let mut journal = io::large_buffer();
+    let whole = file::read(path, file, &mut journal);
+    let desk = start(
+        &mut disk,
+        &mut dated,
+        &mut pending,
+        &mut past,
+        &mut snapshots,
+        &mut copies,
+        &mut copied,
+        &journal,
+        whole,
+        path,
+        file,
+    );
+    let mut buffer = input::buffer();
+    let input = laid(&mut buffer, source);
+    let most = room(&journal);
+    run(
+        &mut disk,
+        &mut dated,
+        &mut pending,
+        &mut past,
+        &mut snapshots,
+        &mut copies,
+        &mut copied,
+        &mut journal[..most],
+        path,
+        &mut buffer,
+        desk,
+        input,
+    );
+}
+
+fn laid(buffer: &mut [u8], source: i32) -> Input
+    ensures { λ r. ⌜ Within r (length (now (buffer .exit))) ⌝ }
+{
+    let mut end: usize = 0;
+    if source < 0 {
+        end = demo::lay(buffer);
+    }
+    Input {
+        source,
+        start: 0,
+        seen: 0,
+        end,
+        passing: false,
+        going: true,
+    }
+}
+
+pub fn in_memory() {
+    serve(b"", -1, libc::STDIN_FILENO);
+}
+
+pub fn night() {
+    serve(b"", -1, -1);
+}
+
+// Nothing is read before the lock is ours.
+pub fn in_file(path: &[u8]) {
+    if !say::are_open() {
+        return;
+    }
+    if !lock::is_taken(path) {
+        return;
+    }
+    let file = file::opened(path);
+    if 0 <= file {
+        serve(path, file, libc::STDIN_FILENO);
+    }
+    lock::release(path);
+}

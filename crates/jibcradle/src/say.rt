@@ -1,0 +1,117 @@
+// What the program writes: answers on standard output, each at once, and refusals on standard error. An answer is false where
+// standard output takes no more, after a word on standard error.
+use crate::paths;
+use libc::STDERR_FILENO;
+use libc::STDOUT_FILENO;
+use lines::Fault;
+use model::Answer;
+use model::Figures;
+
+// A file opened while a standard descriptor is closed would take its number, and answers would go into it.
+fn is_open(descriptor: i32, name: &[u8]) -> bool {
+    if 0 <= libc::lseek(descriptor, 0, libc::SEEK_CUR) {
+        return true;
+    }
+    if os::errno() != libc::EBADF {
+        return true;
+    }
+    os::fail(name);
+    false
+}
+
+pub fn are_open() -> bool {
+    if !is_open(libc::STDIN_FILENO, b"standard input") {
+        return false;
+    }
+    if !is_open(STDERR_FILENO, b"standard error") {
+        return false;
+    }
+    is_open(STDOUT_FILENO, b"standard output")
+}
+
+pub fn text(words: &[u8]) -> bool {
+    if io::write_all(STDOUT_FILENO, words) {
+        return true;
+    }
+    os::fail(b"standard output");
+    false
+}
+
+// The first n bytes of a line.
+fn first(line: &[u8; 512], n: usize) -> bool {
+    let whole = &line[..];
+    let k = paths::within(n, whole);
+    text(&whole[..k])
+}
+
+pub fn answer(a: Answer) -> bool {
+    let mut line = [0u8; 512];
+    let n = answers::answer_line(a, &mut line);
+    first(&line, n)
+}
+
+pub fn page(a: Answer, words: &[u64]) -> bool {
+    let mut line = [0u8; 512];
+    let n = answers::page_line(a, words, &mut line);
+    first(&line, n)
+}
+
+pub fn standing(a: Answer, figures: Figures) -> bool {
+    let mut line = [0u8; 512];
+    let n = answers::standing_line(a, figures, &mut line);
+    first(&line, n)
+}
+
+fn number_of(fault: Fault) -> u64 {
+    match fault {
+        Fault::Unknown => 0,
+        Fault::Missing => 1,
+        Fault::Digit => 2,
+        Fault::Large => 3,
+        Fault::Equals => 4,
+        Fault::Extra => 5,
+    }
+}
+
+pub fn wrong(fault: Fault, column: usize) -> bool {
+    let mut line = [0u8; 512];
+    let n = answers::fault_line(number_of(fault), column as u64, &mut line);
+    first(&line, n)
+}
+
+pub fn opened(path: &[u8], a: Answer) -> bool {
+    text(b"opened ");
+    text(path);
+    let mut line = [0u8; 512];
+    let n = answers::opened_line(a, &mut line);
+    first(&line, n)
+}
+
+// `? `, a name and what is wrong with it.
+pub fn refused(name: &[u8], what: &[u8]) -> bool {
+    text(b"? ");
+    text(name);
+    text(what);
+    text(b"\n")
+}
+
+pub fn refused_beyond(used: u64) -> bool {
+    text(b"? the journal has ");
+    io::print_decimal(STDOUT_FILENO, used);
+    text(b" bytes\n")
+}
+
+pub fn trouble(name: &[u8], what: &[u8]) {
+    io::write_all(STDERR_FILENO, name);
+    io::write_all(STDERR_FILENO, b": ");
+    io::write_all(STDERR_FILENO, what);
+    io::write_all(STDERR_FILENO, b"\n");
+}
+
+pub fn trouble_with(name: &[u8], process: u64, what: &[u8]) {
+    io::write_all(STDERR_FILENO, name);
+    io::write_all(STDERR_FILENO, b": process ");
+    io::print_decimal(STDERR_FILENO, process);
+    io::write_all(STDERR_FILENO, what);
+    io::write_all(STDERR_FILENO, b"\n");
+}

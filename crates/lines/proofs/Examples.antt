@@ -1,0 +1,51 @@
+-- The definitions on lines as a keeper types them, by computation.
+use Prim.Native.Nat.{ℕ}
+use Prim.Native.String.{String}
+use mathlib.Core.Path.{_≡_, refl}
+use mathlib.Core.List.{List, [], _∷_}
+use Rattle.lines.specs.Names.{spelt}
+use Rattle.lines.specs.Lines.{parsed}
+use Rattle.lines.specs.declared.Fault.the-variants.{Unknown, Missing, Digit, Large, Equals, Extra}
+use Rattle.lines.specs.declared.Call.{Call}
+use Rattle.lines.specs.declared.Call.the-variants as call
+
+abbrev Says : String → Call → Type 0
+Says line c = parsed (spelt line) .call ≡ c
+
+abbrev Lists : String → List ℕ → List ℕ → Type 0
+Lists line firsts seconds = (parsed (spelt line) .firsts ≡ firsts) × (parsed (spelt line) .seconds ≡ seconds)
+
+blank-lines : Says "" call.Blank × Says "  \t# commit 1" call.Blank
+unfolding parsed
+blank-lines = (refl, refl)
+
+a-commit : Says "commit 7 5=1 06=18446744073709551615" (call.Commit 7 2) × Lists "commit 7 5=1 06=18446744073709551615" (5 ∷ 6 ∷ []) (1 ∷ 18446744073709551615 ∷ [])
+unfolding parsed
+a-commit = (refl, (refl, refl))
+
+a-gossip : Says "gossip 0 9 3 4 # two" (call.Gossip 0 9 2) × Lists "gossip 0 9 3 4 # two" (3 ∷ 4 ∷ []) []
+unfolding parsed
+a-gossip = (refl, (refl, refl))
+
+others : Says "flush 0031" (call.Flush 31) × Says "read 4 5" (call.Read 4 5) × Says "clock 4 5" (call.Clock 4 5) × Says "now 1" (call.Now 1)
+    × Says "\tstanding \r" call.Standing × Says "fresh" call.Fresh × Says "help#" call.Help × Says "cut 0" (call.Cut 0)
+unfolding parsed
+others = (refl, refl, refl, refl, refl, refl, refl, refl)
+
+-- 18 stamps: 17 are kept, and the words behind them are judged all the same
+long-lists : Says "gossip 0 9 1 1 1 1 1 1 1 1 1 1 1 1 1 1 1 1 1 1" (call.Gossip 0 9 17) × Says "gossip 0 9 1 1 1 1 1 1 1 1 1 1 1 1 1 1 1 1 1 1 x" (call.Wrong Digit 48)
+unfolding parsed
+long-lists = (refl, refl)
+
+words-wrong : Says "Flush 1" (call.Wrong Unknown 1) × Says "commit" (call.Wrong Missing 7) × Says "read 4 # 5" (call.Wrong Missing 8) × Says "now 1 2" (call.Wrong Extra 7)
+unfolding parsed
+words-wrong = (refl, refl, refl, refl)
+
+numbers-wrong : Says "read 4x 5" (call.Wrong Digit 7) × Says "flush 18446744073709551616" (call.Wrong Large 7) × Says "flush 99999999999999999999y" (call.Wrong Digit 27)
+unfolding parsed
+numbers-wrong = (refl, refl, refl)
+
+writes-wrong : Says "commit 1 5" (call.Wrong Equals 11) × Says "commit 1 5=" (call.Wrong Missing 12) × Says "commit 1 =5" (call.Wrong Missing 10)
+    × Says "commit 1 5=+3" (call.Wrong Digit 12) × Says "commit 1 5x=3" (call.Wrong Digit 11) × Says "commit x 5" (call.Wrong Digit 8)
+unfolding parsed
+writes-wrong = (refl, refl, refl, refl, refl, refl)

@@ -1,0 +1,10 @@
+pub mod Cases
+pub mod Runs
+pub mod Spans
+pub mod Digits
+pub mod Same
+pub mod Taking
+pub mod Storing
+pub mod Calling
+pub mod Printing
+pub mod Examples

@@ -1,0 +1,44 @@
+-- "The command", the names of the calls, by how many numbers each takes.
+use Prim.Native.Nat.{ℕ}
+use Prim.Native.Char.{code}
+use Prim.Native.String.{String, [] as none, _∷_ as _then_}
+use mathlib.Core.Bool.{Bool, true, false}
+use mathlib.Core.List.{List, [], _∷_}
+use lib.Dec.{eqb}
+use Rattle.model.specs.Lists.{both, pick}
+use Rattle.lines.specs.declared.names.Name.{Name}
+use Rattle.lines.specs.declared.names.Name.the-variants as name
+use Rattle.lines.specs.declared.names.Bare.the-variants as bare
+use Rattle.lines.specs.declared.names.Single.the-variants as single
+use Rattle.lines.specs.declared.names.Double.the-variants as double
+
+-- the bytes of a name
+abbrev pub spelt : String → List ℕ
+spelt none = []
+spelt (c then s) = code c ∷ spelt s
+
+abbrev pub sameB : List ℕ → List ℕ → Bool
+sameB [] [] = true
+sameB [] (y ∷ ys) = false
+sameB (x ∷ xs) [] = false
+sameB (x ∷ xs) (y ∷ ys) = both (eqb x y) (sameB xs ys)
+
+-- a change, a read, any other
+abbrev pub otherName : List ℕ → Name
+otherName w =
+    pick (sameB w (spelt "standing")) (name.Bare bare.Standing)
+    (pick (sameB w (spelt "fresh")) (name.Bare bare.Fresh)
+    (pick (sameB w (spelt "help")) (name.Bare bare.Help)
+    (pick (sameB w (spelt "cut")) (name.Single single.Cut) name.Unknown)))
+
+abbrev pub readName : List ℕ → Name
+readName w =
+    pick (sameB w (spelt "read")) (name.Double double.Read)
+    (pick (sameB w (spelt "clock")) (name.Double double.Clock)
+    (pick (sameB w (spelt "now")) (name.Single single.Now) (otherName w)))
+
+abbrev pub nameOf : List ℕ → Name
+nameOf w =
+    pick (sameB w (spelt "commit")) name.Commit
+    (pick (sameB w (spelt "gossip")) name.Gossip
+    (pick (sameB w (spelt "flush")) (name.Single single.Flush) (readName w)))

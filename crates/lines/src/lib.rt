@@ -1,0 +1,72 @@
+// One line of the keeper's command, read as a call. specs/Lines.antt says what each line means.
+mod calls;
+mod lists;
+mod names;
+mod numbers;
+mod takes;
+mod words;
+
+use crate::words::Class;
+ghost use mathlib.Core.Path.{_≡_};
+ghost use lib.ListN.{length};
+ghost use Rattle.lines.specs.Lines.{ofText, parsed, Reading};
+
+// What is wrong with a line that is no call: no such call, a word is missing, a byte that is no digit, a number of 2^64 or more,
+// a write without its `=`, a word too many.
+pub enum Fault {
+    Unknown,
+    Missing,
+    Digit,
+    Large,
+    Equals,
+    Extra,
+}
+
+// A call with its numbers. Commit has its stamp and how many writes were kept, Gossip its two stamps and how many snapshots were kept.
+// A line that is no call is Wrong, with its first fault and the column of that, counted from 1.
+pub enum Call {
+    Blank,
+    Commit(u64, usize),
+    Gossip(u64, u64, usize),
+    Flush(u64),
+    Read(u64, u64),
+    Clock(u64, u64),
+    Now(u64),
+    Standing,
+    Fresh,
+    Help,
+    Cut(u64),
+    Wrong(Fault, usize),
+}
+
+// A table of 17 numbers has 17: that is known of a table by value only.
+fn seventeen(table: [u64; 17])
+    ensures { λ _. ⌜ length table ≡ 17 ⌝ }
+{}
+
+// The call that a line is, its comment cut off.
+fn read_text(text: &[u8], firsts: &mut [u64; 17], seconds: &mut [u64; 17]) -> Call
+    requires { ⌜ (length (now firsts) ≡ 17) × (length (now seconds) ≡ 17) ⌝ }
+    ensures { λ r. ⌜ Reading (ofText (now (text .entry))) r (now (firsts .exit)) (now (seconds .exit)) ⌝ }
+{
+    let span = words::next_word(text, 0);
+    let from = span.from;
+    let to = span.to;
+    if from == to {
+        return Call::Blank;
+    }
+    let word = &text[from..to];
+    let name = names::name_of(word);
+    calls::read_call(text, to, name, from + 1, firsts, seconds)
+}
+
+// The call that a line is. The numbers of its list go to `firsts` and `seconds`: objects and values of a commit, stamps of a gossip.
+pub fn read_line(line: &[u8], firsts: &mut [u64; 17], seconds: &mut [u64; 17]) -> Call
+    ensures { λ r. ⌜ Reading (parsed (now (line .entry))) r (now (firsts .exit)) (now (seconds .exit)) ⌝ }
+{
+    seventeen(*firsts);
+    seventeen(*seconds);
+    let end = words::run_of(line, Class::Text);
+    let text = &line[..end];
+    read_text(text, firsts, seconds)
+}

@@ -1,0 +1,53 @@
+-- What a call below promises of its answer, as what the caller is told.
+use Prim.Native.Nat.{ℕ}
+use mathlib.Core.Path.{_≡_, ap, _∙_}
+use mathlib.Core.List.{List}
+use lib.IntN.{ℤ}
+use Rattle.model.specs.declared.Answer.{Answer}
+use Rattle.model.specs.declared.Figures.{Figures}
+use Rattle.model.specs.Answers.{codeOf, numberOf}
+use Rattle.model.specs.Store.{Store}
+use Rattle.model.specs.Calls.{Outcome}
+use Rattle.model.specs.Reads as reads
+use Rattle.model.specs.Restart.{Restarted}
+use Rattle.changes.specs.Left.{Left}
+use Rattle.reads.specs.Read.{Read}
+use Rattle.restart.specs.Promises.{Rebuilt}
+use Rattle.repository.specs.declared.Moved.{Moved}
+use Rattle.repository.specs.declared.Reply.{Reply}
+use Rattle.repository.specs.Faces.{Told, Changed, Begun, Shown, Stood}
+
+module _ {answer : Answer} {place : ℕ} {r : Moved} {store : Store} where
+  pub changed : {x : Outcome} {journal : List ℕ} → Left x answer store journal place → Told answer place r → Changed x r store journal
+  changed l t = record {
+    coded = t .coded ∙ ap codeOf (l .answered);
+    numbered = t .numbered ∙ ap numberOf (l .answered);
+    placed = t .placed ∙ l .place-is;
+    contains = l .contains;
+    journal-is = l .journal-is;
+  }
+
+  pub begun : {x : Restarted} → Rebuilt x answer store place → Told answer place r → Begun x r store
+  begun l t = record {
+    coded = t .coded ∙ ap codeOf (l .answered);
+    numbered = t .numbered ∙ ap numberOf (l .answered);
+    placed = t .placed ∙ l .place-is;
+    contains = l .contains;
+  }
+
+pub shown : {x : reads.Shown} {answer : Answer} {buffer : List ℕ} {r : Reply} → Read x answer buffer
+    → (r .code ≡ codeOf answer) × (r .number ≡ numberOf answer) → Shown x r buffer
+shown l t = record { coded = t .0 ∙ ap codeOf (l .answered); numbered = t .1 ∙ ap numberOf (l .answered); filled = l .filled }
+
+pub stood : (s : Store) {answer : Answer} {figures : Figures} {code number : ℕ} {lag : ℤ} → (answer ≡ reads.standing s .answer) × (figures ≡ reads.standing s .figures)
+    → code ≡ codeOf answer → number ≡ numberOf answer → lag ≡ figures .lag
+    → Stood (reads.standing s) (record { code = code; number = number; pending = figures .pending; past = figures .past; snapshots = figures .snapshots; copies = figures .copies; lag = lag })
+stood s l c n g = record {
+  coded = c ∙ ap codeOf (l .0);
+  numbered = n ∙ ap numberOf (l .0);
+  pendings = ap (λ (f : Figures). f .pending) (l .1);
+  pasts = ap (λ (f : Figures). f .past) (l .1);
+  known = ap (λ (f : Figures). f .snapshots) (l .1);
+  copied = ap (λ (f : Figures). f .copies) (l .1);
+  lagging = g ∙ ap (λ (f : Figures). f .lag) (l .1);
+}

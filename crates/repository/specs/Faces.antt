@@ -1,0 +1,56 @@
+-- What the face promises: the struct's fields are a store of the model, and each call's reply tells the model's answer.
+use Prim.Native.Nat.{ℕ}
+use mathlib.Core.Path.{_≡_}
+use mathlib.Core.List.{List}
+use Rattle.model.specs.declared.Answer.{Answer}
+use Rattle.model.specs.Answers.{codeOf, numberOf}
+use Rattle.model.specs.Store as model
+use Rattle.model.specs.Calls.{Outcome}
+use Rattle.model.specs.Reads as reads
+use Rattle.model.specs.Restart as starts
+use Rattle.tables.specs.Contents.{contents}
+use Rattle.repository.specs.declared.Store.{Store}
+use Rattle.repository.specs.declared.Moved.{Moved}
+use Rattle.repository.specs.declared.Reply.{Reply}
+use Rattle.repository.specs.declared.Report.{Report}
+
+-- the store that the struct holds
+abbrev pub stored : Store → model.Store
+stored s = contents (s .disk) (s .dated) (s .pending) (s .past) (s .snapshots) (s .copies) (s .copied) (s .heads)
+
+-- an answer and a place, as the caller is told them
+pub record Told (answer : Answer) (place : ℕ) (r : Moved) : Type 0 where
+  pub coded : r .code ≡ codeOf answer
+  pub numbered : r .number ≡ numberOf answer
+  pub placed : r .place ≡ place
+
+-- a change: code, number, place, contents of the store, every byte of the journal
+pub record Changed (x : Outcome) (r : Moved) (store : model.Store) (journal : List ℕ) : Type 0 where
+  pub coded : r .code ≡ codeOf (x .answer)
+  pub numbered : r .number ≡ numberOf (x .answer)
+  pub placed : r .place ≡ x .place
+  pub contains : store ≡ x .store
+  pub journal-is : journal ≡ x .journal
+
+-- fresh and restart: code, number, place, contents of the store
+pub record Begun (x : starts.Restarted) (r : Moved) (store : model.Store) : Type 0 where
+  pub coded : r .code ≡ codeOf (x .answer)
+  pub numbered : r .number ≡ numberOf (x .answer)
+  pub placed : r .place ≡ x .place
+  pub contains : store ≡ x .store
+
+-- a read: code, number, the whole buffer
+pub record Shown (x : reads.Shown) (r : Reply) (buffer : List ℕ) : Type 0 where
+  pub coded : r .code ≡ codeOf (x .answer)
+  pub numbered : r .number ≡ numberOf (x .answer)
+  pub filled : buffer ≡ x .buffer
+
+-- standing: code, number, the five figures
+pub record Stood (x : reads.Stood) (r : Report) : Type 0 where
+  pub coded : r .code ≡ codeOf (x .answer)
+  pub numbered : r .number ≡ numberOf (x .answer)
+  pub pendings : r .pending ≡ x .figures .pending
+  pub pasts : r .past ≡ x .figures .past
+  pub known : r .snapshots ≡ x .figures .snapshots
+  pub copied : r .copies ≡ x .figures .copies
+  pub lagging : r .lag ≡ x .figures .lag

@@ -1,0 +1,137 @@
+# Starting the command, speaking with it line by line, and killing it.
+
+import os
+import select
+import subprocess
+import time
+
+PATIENCE = 30.0  # seconds for one answer or one run; only a hanging program needs them
+
+
+class Failed(Exception):
+    """A test's expectation that does not hold."""
+
+    def __str__(self):
+        return " ".join(str(word) for word in self.args)
+
+
+def expect(holds, *words):
+    if not holds:
+        raise Failed(*words)
+
+
+def shown(data, most=300):
+    """Bytes or text for a message, its middle left out where it is long."""
+    text = repr(data)
+    return text if len(text) <= most else text[:most // 2] + " ... " + text[-most // 2:]
+
+
+class Program:
+    """The program under test, and how to start it."""
+
+    def __init__(self, path):
+        self.path = os.path.abspath(path)
+
+    def start(self, *arguments, **options):
+        pipes = dict(stdin=subprocess.PIPE, stdout=subprocess.PIPE, stderr=subprocess.PIPE)
+        pipes.update(options)
+        return subprocess.Popen([self.path, *arguments], **pipes)
+
+    def run(self, data, *arguments, **options):
+        """Feeds all of the data, waits for the end, and gives standard output and standard error."""
+        process = self.start(*arguments, **options)
+        try:
+            out, err = process.communicate(data, timeout=PATIENCE)
+        except subprocess.TimeoutExpired:
+            process.kill()
+            out, err = process.communicate()
+            raise Failed("the program did not end; it said", shown(out), shown(err))
+        expect(process.returncode >= 0, "the program died of signal", -process.returncode, shown(err))
+        return out, err
+
+    def killed(self, data, delay, *arguments):
+        """Feeds the data, kills the program some seconds after its start, and gives standard output and error."""
+        process = self.start(*arguments)
+        began = time.monotonic()
+        try:
+            os.write(process.stdin.fileno(), data)
+        except BrokenPipeError:
+            pass
+        time.sleep(max(0.0, delay - (time.monotonic() - began)))
+        process.kill()
+        out, err = drained(process)
+        return out, err
+
+    def talk(self, *arguments, **options):
+        return Talk(self.start(*arguments, **options))
+
+
+def drained(process):
+    """What a killed program had said, whole."""
+    out, err = process.stdout.read(), process.stderr.read()
+    for pipe in (process.stdin, process.stdout, process.stderr):
+        try:
+            pipe.close()
+        except BrokenPipeError:
+            pass
+    process.wait()
+    return out, err
+
+
+class Talk:
+    """A program that lives while we ask and wait for each answer."""
+
+    def __init__(self, process):
+        self.process = process
+        self.pid = process.pid
+        self.rest = b""
+
+    def line(self, patience=PATIENCE):
+        """The next line of the answer without its end, or None when there are no more."""
+        until = time.monotonic() + patience
+        while b"\n" not in self.rest:
+            ready, _, _ = select.select([self.process.stdout], [], [], max(0.0, until - time.monotonic()))
+            expect(ready, "no answer within", patience, "s, only", shown(self.rest))
+            more = os.read(self.process.stdout.fileno(), 65536)
+            if not more:
+                return None
+            self.rest += more
+        line, self.rest = self.rest.split(b"\n", 1)
+        return line.decode("latin-1")
+
+    def send(self, text):
+        os.write(self.process.stdin.fileno(), text.encode("latin-1"))
+
+    def ask(self, text):
+        try:
+            self.send(text + "\n")
+        except BrokenPipeError:
+            return None
+        return self.line()
+
+    def end(self):
+        """Closes the input, waits for the end, and gives what was left on both outputs."""
+        try:
+            out, err = self.process.communicate(timeout=PATIENCE)
+        except subprocess.TimeoutExpired:
+            self.kill()
+            raise Failed("the program did not end with its input")
+        return self.rest + out, err
+
+    def kill(self):
+        self.process.kill()
+        return drained(self.process)
+
+
+def contents(path):
+    """A file's bytes; a file that does not exist has none."""
+    try:
+        with open(path, "rb") as file:
+            return file.read()
+    except FileNotFoundError:
+        return b""
+
+
+def put(path, data):
+    with open(path, "wb") as file:
+        file.write(data)
