@@ -2,6 +2,7 @@
 --     starts    nothing is looked at yet
 --     step      row i is looked at: it is put at place k, and k goes on where it is chosen
 --     copied    a row more is as in the list that is copied
+--     stayed    where all are chosen by a test, those that pass are the list itself
 --     dropped   rows copied out, chosen by a test, compacted and copied back are those that pass
 use Prim.Native.Nat.{ℕ, zero, suc, _+_, _<_, _≤_}
 use mathlib.Core.Path.{_≡_, refl, sym, _∙_, ap, subst}
@@ -12,9 +13,10 @@ use native.Mathlib.Omega.{arith}
 use lib.ListN.{length, take, drop, getD, set, length-set}
 use lib.Seq.{take-suc, drop-cons, take-set-le, drop-set-lt, take-suc-set, length-take-le}
 use Rattle.model.specs.declared.Past.{Past}
-use Rattle.model.specs.Lists.{pick, kept}
+use Rattle.model.specs.Lists.{pick, allB, kept}
 use Rattle.tables.specs.Rows.{pastOf}
 use Rattle.tables.specs.Compaction.{after, chosen, Compacted}
+use Rattle.tables.proofs.Searches.{both-left, both-right}
 
 -- the row that stands for no row
 abbrev pub noPast : Past
@@ -76,6 +78,19 @@ chosen-map : (f : Past → Bool) (n : ℕ) (xs : List Past) → chosen (take n (
 chosen-map f zero xs = refl
 chosen-map f (suc n) [] = refl
 chosen-map f (suc n) (x ∷ xs) = ap (λ (r : List Past). pick (f x) (x ∷ r) r) (chosen-map f n xs)
+
+kept-all : (f : Past → Bool) (n : ℕ) (xs : List Past) → allB (λ b. b) (take n (map f xs)) ≡ true → take n xs ≡ kept f (take n xs)
+kept-all f zero xs e = refl
+kept-all f (suc n) [] e = refl
+kept-all f (suc n) (x ∷ xs) e =
+    let r = both-right (f x) (allB (λ b. b) (take n (map f xs))) e in
+    rw (both-left (f x) (allB (λ b. b) (take n (map f xs))) e) (ap (λ (r : List Past). x ∷ r) (kept-all f n xs r))
+
+pub stayed : (f : Past → Bool) (n : ℕ) (ps : List Past) (bs : List Bool) → take n bs ≡ take n (map f ps) → n ≤ length ps
+    → allB (λ b. b) (take n bs) ≡ true → (take n ps ≡ kept f (take n ps)) × (n ≡ length (kept f (take n ps)))
+stayed f n ps bs eb l h =
+    let e = kept-all f n ps (rw eb at h) in
+    (e, sym (length-take-le n ps l) ∙ ap length e)
 
 pub dropped : (f : Past → Bool) (n k : ℕ) (ps rows zs ts : List Past) (bs : List Bool) → take n rows ≡ take n ps → take n bs ≡ take n (map f ps)
     → Compacted bs n rows zs k → take k ts ≡ take k zs → n ≤ length rows → (take k ts ≡ kept f (take n ps)) × (k ≡ length (kept f (take n ps)))

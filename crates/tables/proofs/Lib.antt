@@ -2,6 +2,7 @@ pub mod Cases
 pub mod Rows
 pub mod Searches
 pub mod Backward
+pub mod Trims
 pub mod Copies
 pub mod Marks
 pub mod Oldest

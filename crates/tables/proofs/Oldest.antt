@@ -1,20 +1,21 @@
 -- The oldest serving copy among those from a row on, whatever words they hold, after one copy more.
-use Prim.Native.Nat.{ℕ, _-_, _<_, _≤_}
-use mathlib.Core.Path.{_≡_, _∙_, ap, sym}
+use Prim.Native.Nat.{ℕ, suc, _-_, _<_, _≤_}
+use mathlib.Core.Path.{_≡_, _∙_, ap, sym, subst}
 use mathlib.Core.Bool.{Bool, true, false, not}
-use mathlib.Core.List.{List}
+use mathlib.Core.List.{List, []}
 use native.Mathlib.Omega.{arith}
-use lib.ListN.{take, drop}
+use lib.ListN.{length, take, drop}
 use lib.Dec.{eqb, leb}
-use borrow.Author.Tests.{eq-eqb, ne-eqb, le-leb, lt-leb}
+use borrow.Author.Tests.{eq-eqb, ne-eqb, eqb-true, eqb-false, le-leb, lt-leb}
 use Rattle.model.specs.Lists.{both, either, pick}
 use Rattle.model.specs.Store.{Served, unserved, by, older, oldest}
 use Rattle.tables.specs.declared.CopyHead.{CopyHead}
 use Rattle.tables.specs.declared.Found.the-variants.{At, Nothing}
-use Rattle.tables.specs.Rows.{copiesOf, copyHeadAt}
-use Rattle.tables.specs.Lookups.{Serving}
+use Rattle.tables.specs.Rows.{copyHeadOf, copiesOf, copyHeadAt}
+use Rattle.tables.specs.Lookups.{trimmed, Serving}
 use Rattle.tables.proofs.Cases.{by-test, clash}
 use Rattle.tables.proofs.Backward.{Turn, back-start, back-cons, back-end}
+use Rattle.tables.proofs.Trims.{trim-last, trim-keeps}
 use Rattle.tables.proofs.Copies.{noCopy, copyOf, copy-page, copy-stamp, copies-turn}
 
 abbrev pub oldestFrom : List CopyHead → ℕ → ℕ → ℕ → ℕ → List ℕ → Served
@@ -81,6 +82,26 @@ module _ {hs : List CopyHead} {n i : ℕ} (t : Turn hs n i) {x : CopyHead} (r : 
         serves = λ words. let w : leb (x .stamp) best ≡ false = rw z at b in rw (choice words z, w);
       };
     }
+
+-- ---- the rows of other pages passed by: what is held, and the page's row before which they stand
+abbrev pub ofPage : ℕ → CopyHead → Bool
+ofPage p c = eqb (c .page) p
+
+module _ (hs : List CopyHead) (n i p : ℕ) (b : i ≤ n) (l : n ≤ length hs) {r : ℕ} (e : r ≡ trimmed (ofPage p) (copyHeadOf []) hs i) where
+  pub held-trimmed : {s best at : ℕ} {found : Bool} → Held hs n p s found best at i → Held hs n p s found best at r
+  held-trimmed {s} {best} {at} {found} v =
+      subst (Held hs n p s found best at) (sym e)
+      (trim-keeps (ofPage p) (copyHeadOf []) hs (Held hs n p s found best at) i
+      (λ k h z w.
+      let q : k ≡ suc k - 1 = omega arith in
+      let t : Turn hs n (suc k) = record { left = omega arith; inside = omega arith; rows = l } in
+      subst (Held hs n p s found best at) (sym q) (held-other t (ap (copyHeadAt hs) q) w (eqb-false _ _ z)))
+      v)
+
+  pub page-trimmed : 0 < r → {x : CopyHead} → x ≡ copyHeadAt hs (r - 1) → x .page ≡ p
+  page-trimmed h q =
+      ap (λ y. y .page) q
+      ∙ eqb-true _ _ (subst (λ j. 0 < j → ofPage p (copyHeadAt hs (j - 1)) ≡ true) (sym e) (trim-last (ofPage p) (copyHeadOf []) hs i) h)
 
 -- ---- the answer, once all rows are passed
 module _ {hs : List CopyHead} {n p s best at i : ℕ} {found : Bool} (v : Held hs n p s found best at i) (z : i ≤ 0) where

@@ -25,6 +25,12 @@ module _ {A : Type 0} (f : A → Bool) (n : ℕ) (l : List A) (i : ℕ) (d : A) 
   pub any-yes : f (getD l i d) ≡ true → anyB f (drop i (take n l)) ≡ true
   any-yes e = rw (slice-cons i n l d, e)
 
+  pub all-no : f (getD l i d) ≡ false → allB f (drop i (take n l)) ≡ false
+  all-no e = rw (slice-cons i n l d, e)
+
+  pub all-yes : f (getD l i d) ≡ true → allB f (drop i (take n l)) ≡ allB f (drop (i + 1) (take n l))
+  all-yes e = rw (add-one, slice-cons i n l d, e)
+
 -- nothing is left behind the last of n
 pub drop-end : {A : Type 0} (n : ℕ) (l : List A) (i : ℕ) → n ≤ i → drop i (take n l) ≡ []
 drop-end n l i h = let e : length (take n l) ≤ i = simp length-take (omega arith) in drop-of-length-le (take n l) e
@@ -34,6 +40,9 @@ first-end f n l i h = rw (drop-end n l i h)
 
 pub any-end : {A : Type 0} (f : A → Bool) (n : ℕ) (l : List A) (i : ℕ) → n ≤ i → anyB f (drop i (take n l)) ≡ false
 any-end f n l i h = rw (drop-end n l i h)
+
+pub all-end : {A : Type 0} (f : A → Bool) (n : ℕ) (l : List A) (i : ℕ) → n ≤ i → allB f (drop i (take n l)) ≡ true
+all-end f n l i h = rw (drop-end n l i h)
 
 -- where all rows pass, each does
 pub both-left : (a b : Bool) → both a b ≡ true → a ≡ true

@@ -1,5 +1,5 @@
 -- What the searches answer, by the model's definitions.
-use Prim.Native.Nat.{ℕ, suc, _<_}
+use Prim.Native.Nat.{ℕ, zero, suc, _<_}
 use mathlib.Core.Path.{_≡_}
 use mathlib.Core.Bool.{Bool, true, false, not}
 use mathlib.Core.List.{List, [], _∷_}
@@ -8,7 +8,7 @@ use lib.Dec.{ltb, eqb}
 use Rattle.model.specs.declared.Pending.{Pending}
 use Rattle.model.specs.declared.Past.{Past}
 use Rattle.model.specs.Limits.{pages}
-use Rattle.model.specs.Lists.{both, either, anyB}
+use Rattle.model.specs.Lists.{both, either, pick, anyB}
 use Rattle.model.specs.Store.{Copy, Served, unserved, by, oldest, pageOf, inSpan, beyondB}
 use Rattle.tables.specs.declared.CopyHead.{CopyHead}
 use Rattle.tables.specs.declared.Found.{Found}
@@ -36,6 +36,11 @@ rowOf Nothing = 128
 pub record Indexed (index : List ℕ) (es : List Pending) : Type 0 where
   pub objects-in : length index ≡ 512
   pub row-at : (o : ℕ) → o < 512 → getD index o 0 ≡ rowOf (findPending o es)
+
+-- how many of the first n rows are left without those at their end that don't pass; past the list's end a row is d
+abbrev pub trimmed : {A : Type 0} → (A → Bool) → A → List A → ℕ → ℕ
+trimmed f d l zero = 0
+trimmed f d l (suc n) = pick (f (getD l n d)) (suc n) (trimmed f d l n)
 
 -- the copy that an index names
 abbrev pub servedAt : Found → List Copy → Served

@@ -6,7 +6,7 @@ ghost use mathlib.Core.Path.{_≡_};
 ghost use mathlib.Core.List.{map};
 ghost use Prim.Native.Nat.{_≤_, _<_};
 ghost use lib.ListN.{length, take};
-ghost use Rattle.model.specs.Lists.{kept};
+ghost use Rattle.model.specs.Lists.{allB, kept};
 ghost use Rattle.tables.specs.Rows.{pasts};
 ghost use Rattle.tables.specs.Lookups.{staysBy};
 ghost use Rattle.tables.specs.Compaction.{after, Compacted};
@@ -130,6 +130,21 @@ fn judged(
     stay
 }
 
+// None of the first n rows goes.
+fn all_stay(stay: [bool; 256], n: usize) -> bool
+    requires { ⌜ n ≤ 256 ⌝ }
+    ensures { λ r. ⌜ r ≡ allB (λ b. b) (take n stay) ⌝ }
+{
+    let mut i: usize = 0;
+    while i < n {
+        if !stay[i] {
+            return false;
+        }
+        i += 1;
+    }
+    true
+}
+
 // The first n rows back as words.
 fn pack(t: &mut PastTable, rows: [Past; 256], n: usize)
     requires { ⌜ (n ≤ 256) × (length (pasts (now t)) ≡ 256) ⌝ }
@@ -142,7 +157,7 @@ fn pack(t: &mut PastTable, rows: [Past; 256], n: usize)
     }
 }
 
-// Keeps the rows that stay; the result is their count.
+// Keeps the rows that stay; the result is their count. Where none goes, nothing is moved.
 pub fn drop_dead(
     t: &mut PastTable,
     n: usize,
@@ -156,6 +171,9 @@ pub fn drop_dead(
     ensures { λ r. ⌜ (take r (pasts (now (t .exit))) ≡ kept (staysBy scope horizon (take known (now (snapshots .entry))) (now (marks .entry))) (take n (pasts (now (t .entry))))) × (r ≡ length (kept (staysBy scope horizon (take known (now (snapshots .entry))) (now (marks .entry))) (take n (pasts (now (t .entry)))))) × (length (pasts (now (t .exit))) ≡ 256) ⌝ }
 {
     let stay = judged(t, n, scope, horizon, snapshots, known, marks);
+    if all_stay(stay, n) {
+        return n;
+    }
     let rows = unpacked(t, n);
     let front = compacted(rows, n, stay);
     let rows = front.rows;

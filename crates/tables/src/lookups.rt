@@ -2,20 +2,21 @@
 // the last row to the first.
 use crate::CopyTable;
 use crate::Found;
+use crate::PastTable;
 use crate::PendingTable;
 use crate::Snapshots;
 use model::Past;
 ghost use mathlib.Core.Path.{_≡_};
 ghost use mathlib.Core.Bool.{not, true};
-ghost use mathlib.Core.List.{List};
+ghost use mathlib.Core.List.{List, []};
 ghost use Prim.Native.Nat.{ℕ, _≤_, _<_};
 ghost use lib.ListN.{length, take, getD};
-ghost use lib.Dec.{ltb, leb};
+ghost use lib.Dec.{eqb, ltb, leb};
 ghost use Rattle.model.specs.Lists.{both, either, anyB, allB};
-ghost use Rattle.model.specs.Store.{mark, inSpan, beyondB, liveB};
+ghost use Rattle.model.specs.Store.{mark, pageOf, inSpan, beyondB, liveB};
 ghost use Rattle.model.specs.Reads.{largest};
-ghost use Rattle.tables.specs.Rows.{pendings, copyHeads, copiesOf};
-ghost use Rattle.tables.specs.Lookups.{findPending, Serving, wantedB};
+ghost use Rattle.tables.specs.Rows.{pendingOf, pastOf, copyHeadOf, pendings, pasts, copyHeads, copiesOf};
+ghost use Rattle.tables.specs.Lookups.{findPending, trimmed, Serving, wantedB};
 
 // The object's pending entry among the first n.
 pub fn find_pending(t: &PendingTable, n: usize, object: u64) -> Found
@@ -107,6 +108,54 @@ fn better(found: bool, best: u64, stamp: u64) -> bool
     if found { stamp <= best } else { true }
 }
 
+// Of the first n copies, those up to the page's last. One test a row, for the rows of other pages are the most.
+fn trimmed_copies(t: &CopyTable, n: usize, page: u64) -> usize
+    requires { ⌜ n ≤ 128 ⌝ }
+    ensures { λ r. ⌜ (r ≡ trimmed (λ c. eqb (c .page) page) (copyHeadOf []) (copyHeads (now (t .entry))) n) × (r ≤ n) ⌝ }
+{
+    let mut i = n;
+    while 0 < i {
+        let c = crate::copy_at(t, i - 1);
+        if c.page == page {
+            return i;
+        }
+        i -= 1;
+    }
+    0
+}
+
+// Of the first n past rows, those up to the page's last.
+pub fn trimmed_past(t: &PastTable, n: usize, page: u64) -> usize
+    requires { ⌜ n ≤ 256 ⌝ }
+    ensures { λ r. ⌜ (r ≡ trimmed (λ q. eqb (pageOf (q .object)) page) (pastOf []) (pasts (now (t .entry))) n) × (r ≤ n) ⌝ }
+{
+    let mut i = n;
+    while 0 < i {
+        let q = crate::past_at(t, i - 1);
+        if q.object / 16 == page {
+            return i;
+        }
+        i -= 1;
+    }
+    0
+}
+
+// Of the first n pending entries, those up to the page's last.
+pub fn trimmed_pending(t: &PendingTable, n: usize, page: u64) -> usize
+    requires { ⌜ n ≤ 128 ⌝ }
+    ensures { λ r. ⌜ (r ≡ trimmed (λ e. eqb (pageOf (e .object)) page) (pendingOf []) (pendings (now (t .entry))) n) × (r ≤ n) ⌝ }
+{
+    let mut i = n;
+    while 0 < i {
+        let e = crate::pending_at(t, i - 1);
+        if e.object / 16 == page {
+            return i;
+        }
+        i -= 1;
+    }
+    0
+}
+
 // The page's oldest copy with stamp >= s, the first row among equals.
 pub fn serving(t: &CopyTable, n: usize, page: u64, s: u64) -> Found
     requires { ⌜ (n ≤ 128) × (length (copyHeads (now t)) ≡ 128) ⌝ }
@@ -117,10 +166,11 @@ pub fn serving(t: &CopyTable, n: usize, page: u64, s: u64) -> Found
     let mut at: usize = 0;
     let mut i = n;
     while 0 < i {
-        i -= 1;
-        let c = crate::copy_at(t, i);
-        let stamp = c.stamp;
-        if c.page == page {
+        i = trimmed_copies(t, i, page);
+        if 0 < i {
+            i -= 1;
+            let c = crate::copy_at(t, i);
+            let stamp = c.stamp;
             if s <= stamp {
                 if better(found, best, stamp) {
                     found = true;

@@ -8,7 +8,8 @@ use tables::PendingTable;
 ghost use mathlib.Core.Path.{_≡_};
 ghost use mathlib.Core.List.{List};
 ghost use Prim.Native.Nat.{ℕ, _≤_, _+_};
-ghost use lib.ListN.{length, take, drop, getD};
+ghost use lib.ListN.{length, take, drop, getD, set};
+ghost use Rattle.model.specs.Lists.{pick};
 ghost use Rattle.model.specs.Store.{page16, objectAt, slotOf, pendingSeen, pastSeen};
 ghost use Rattle.tables.specs.Rows.{pendings, pasts};
 ghost use Rattle.tables.specs.Contents.{contents};
@@ -64,19 +65,39 @@ fn part(ages: bool, value: u64, stamp: u64) -> u64
     if ages { stamp } else { value }
 }
 
-// From the last row to the first, so that the first that covers stays.
+// A row that covers puts its word at its slot.
+fn lay_row(q: Past, v: View, out: &mut [u64])
+    requires { ⌜ length (now out) ≡ 16 ⌝ }
+    ensures { λ _. ⌜ now (out .exit) ≡ pick (coversB v q) (set (now (out .entry)) (slotOf (q .object)) (partOf (v .ages) (pastSeen q))) (now (out .entry)) ⌝ }
+{
+    if covers(q, v) {
+        let slot = (q.object % 16) as usize;
+        out[slot] = part(v.ages, q.value, q.from);
+    }
+}
+
+// From the page's last row to its first, so that the first that covers stays.
 fn lay_past(t: &PastTable, n: usize, v: View, out: &mut [u64])
     requires { ⌜ (n ≤ 256) × (length (pasts (now t)) ≡ 256) × (length (now out) ≡ 16) ⌝ }
     ensures { λ _. ⌜ now (out .exit) ≡ lay (coversB v) (λ q. slotOf (q .object)) (λ q. partOf (v .ages) (pastSeen q)) (take n (pasts (now (t .entry)))) (now (out .entry)) ⌝ }
 {
-    let mut i = n;
+    let mut i = tables::lookups::trimmed_past(t, n, v.page);
     while 0 < i {
         i -= 1;
         let q = tables::past_at(t, i);
-        if covers(q, v) {
-            let slot = (q.object % 16) as usize;
-            out[slot] = part(v.ages, q.value, q.from);
-        }
+        lay_row(q, v, out);
+        i = tables::lookups::trimmed_past(t, i, v.page);
+    }
+}
+
+// An entry that is shown puts its word at its slot.
+fn lay_entry(e: Pending, v: View, out: &mut [u64])
+    requires { ⌜ length (now out) ≡ 16 ⌝ }
+    ensures { λ _. ⌜ now (out .exit) ≡ pick (showsB v e) (set (now (out .entry)) (slotOf (e .object)) (partOf (v .ages) (pendingSeen e))) (now (out .entry)) ⌝ }
+{
+    if shows(e, v) {
+        let slot = (e.object % 16) as usize;
+        out[slot] = part(v.ages, e.value, e.latest);
     }
 }
 
@@ -84,14 +105,12 @@ fn lay_pending(t: &PendingTable, n: usize, v: View, out: &mut [u64])
     requires { ⌜ (n ≤ 128) × (length (pendings (now t)) ≡ 128) × (length (now out) ≡ 16) ⌝ }
     ensures { λ _. ⌜ now (out .exit) ≡ lay (showsB v) (λ e. slotOf (e .object)) (λ e. partOf (v .ages) (pendingSeen e)) (take n (pendings (now (t .entry)))) (now (out .entry)) ⌝ }
 {
-    let mut i = n;
+    let mut i = tables::lookups::trimmed_pending(t, n, v.page);
     while 0 < i {
         i -= 1;
         let e = tables::pending_at(t, i);
-        if shows(e, v) {
-            let slot = (e.object % 16) as usize;
-            out[slot] = part(v.ages, e.value, e.latest);
-        }
+        lay_entry(e, v, out);
+        i = tables::lookups::trimmed_pending(t, i, v.page);
     }
 }
 

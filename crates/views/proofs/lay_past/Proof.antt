@@ -1,14 +1,15 @@
--- From the last row to the first, `out` is the past rows passed laid over what it was.
-use Prim.Native.Nat.{_≤_}
-use mathlib.Core.Path.{_≡_, sym, _∙_}
+-- From the page's last row to its first, `out` is the past rows passed laid over what it was.
+use Prim.Native.Nat.{_≤_, _-_}
+use mathlib.Core.Path.{_≡_, _∙_}
 use mathlib.Core.List.{[]}
-use lib.ListN.{length, take, drop, length-set}
+use lib.ListN.{length, take, drop}
+use lib.Dec.{eqb}
 use borrow.Author.Needs.{needs}
-use Rattle.model.specs.Store.{slotOf, pastSeen}
+use Rattle.model.specs.Store.{pageOf, slotOf, pastSeen}
 use Rattle.tables.specs.Rows.{pastOf, pasts}
 use Rattle.tables.proofs.Backward.{Turn, back-start}
 use Rattle.views.specs.Views.{partOf, coversB}
-use Rattle.views.proofs.Laying.{pastOver, lay-yes, lay-no, lay-end}
+use Rattle.views.proofs.Laying.{pastOver, put-length, lay-more, lay-trimmed, lay-end}
 use Rattle.views.proofs.lay_past.Statement.{statement}
 use Rattle.views.proofs.lay_past.Tie as tie
 
@@ -19,12 +20,22 @@ Inv-loop t n v out₀ i₀ out i =
 abbrev μ-loop : tie.MeasureT-loop
 μ-loop t n v out₀ i₀ out i = i
 
+trimmed-past-requires : tie.Need-trimmed-past-requires Inv-loop μ-loop
+trimmed-past-requires c κs = search needs
+
 loop-holds : tie.Need-loop-holds Inv-loop μ-loop
-loop-holds c = let a = c .before .args in (search needs, search needs, rw (back-start (a .n) (pasts (a .t .now))))
+loop-holds c =
+    let a = c .before .before .args in
+    let ps = pasts (a .t .now) in
+    let s : a .out .now ≡ pastOver (a .v) (drop (a .n) (take (a .n) ps)) (a .out .now) = rw (back-start (a .n) ps) in (
+      search needs,
+      search needs,
+      lay-trimmed (coversB (a .v)) (λ q. slotOf (q .object)) (λ q. partOf (a .v .ages) (pastSeen q))
+          (λ q. eqb (pageOf (q .object)) (a .v .page)) (λ q z. rw z) (pastOf []) ps (a .n) (a .n) (a .out .now) (search needs) (search needs) (c .trimmed-past .ensures .0) s,
+    )
 
 -- a turn's bounds
-turn : (c : tie.In-loop Inv-loop μ-loop)
-    → Turn (pasts (c .before .before .before .args .t .now)) (c .before .before .before .args .n) (c .before .loop .i)
+turn : (c : tie.In-loop Inv-loop μ-loop) → Turn (pasts (c .before .before .before .before .args .t .now)) (c .before .before .before .before .args .n) (c .before .loop .i)
 turn c = record { left = search needs; inside = search needs; rows = search needs }
 
 sub-i : tie.Need-sub-i Inv-loop μ-loop
@@ -33,46 +44,27 @@ sub-i c = search needs
 past-at-requires : tie.Need-past-at-requires Inv-loop μ-loop
 past-at-requires c κs = search needs
 
-covers-requires : tie.Need-covers-requires Inv-loop μ-loop
-covers-requires c κs = search needs
+lay-row-requires : tie.Need-lay-row-requires Inv-loop μ-loop
+lay-row-requires c κs = search needs
 
-part-requires : tie.Need-part-requires Inv-loop μ-loop
-part-requires c κs = search needs
-
-mul-out : tie.Need-mul-out Inv-loop μ-loop
-mul-out c = search needs
-
-slice-write-out : tie.Need-slice-write-out Inv-loop μ-loop
-slice-write-out c = search needs
+trimmed-past-requires-2 : tie.Need-trimmed-past-requires-2 Inv-loop μ-loop
+trimmed-past-requires-2 c κs = search needs
 
 loop-less : tie.Need-loop-less Inv-loop μ-loop
 loop-less c = search needs
 
 loop-again : tie.Need-loop-again Inv-loop μ-loop
 loop-again c =
-    let b = c .before .before .before .before .before .before in
-    let a = b .before .before .args in
-    let v = b .loop in
-    let e = sym (c .before .before .before .covers .ensures) ∙ c .before .before .if1 .taken in (
+    let a = c .before .before .before .before .before .before .before .before .before .before .args in
+    let v = c .before .before .before .before .before .before .before .loop in
+    let ps = pasts (a .t .now) in
+    let q = c .before .before .before .before .before .past-at .result in
+    let l = c .before .before .before .lay-row .ensures in
+    let s = lay-more (coversB (a .v)) (λ q. slotOf (q .object)) (λ q. partOf (a .v .ages) (pastSeen q)) (turn (c .before .before .before .before .before .before)) (pastOf []) (a .out .now) (v .inv .2) (c .before .before .before .before .before .past-at .ensures) l in (
       search needs,
-      simp length-set (v .inv .1),
-      lay-yes (coversB (a .v)) (λ q. slotOf (q .object)) (λ q. partOf (a .v .ages) (pastSeen q)) (turn (c .before .before .before .before .before))
-          (pastOf []) (a .out .now) (v .inv .2) (c .before .before .before .before .past-at .ensures) e (c .part .ensures),
-    )
-
-loop-less-2 : tie.Need-loop-less-2 Inv-loop μ-loop
-loop-less-2 c = search needs
-
-loop-again-2 : tie.Need-loop-again-2 Inv-loop μ-loop
-loop-again-2 c =
-    let b = c .before .before .before .before in
-    let a = b .before .before .args in
-    let v = b .loop in
-    let e = sym (c .before .covers .ensures) ∙ c .if1 .left in (
-      search needs,
-      v .inv .1,
-      lay-no (coversB (a .v)) (λ q. slotOf (q .object)) (λ q. partOf (a .v .ages) (pastSeen q)) (turn (c .before .before .before))
-          (pastOf []) (a .out .now) (v .inv .2) (c .before .before .past-at .ensures) e,
+      put-length (coversB (a .v) q) (v .out) (slotOf (q .object)) (partOf (a .v .ages) (pastSeen q)) l (v .inv .1),
+      lay-trimmed (coversB (a .v)) (λ q. slotOf (q .object)) (λ q. partOf (a .v .ages) (pastSeen q))
+          (λ q. eqb (pageOf (q .object)) (a .v .page)) (λ q z. rw z) (pastOf []) ps (a .n) (v .i - 1) (a .out .now) (search needs) (search needs) (c .trimmed-past2 .ensures .0) s,
     )
 
 same-length : tie.Need-same-length Inv-loop μ-loop
@@ -80,7 +72,7 @@ same-length c = search needs
 
 returns : tie.Need-returns Inv-loop μ-loop
 returns c =
-    let a = c .before .before .before .args in
+    let a = c .before .before .before .before .args in
     let v = c .before .loop in
     v .inv .2
     ∙ lay-end (coversB (a .v)) (λ q. slotOf (q .object)) (λ q. partOf (a .v .ages) (pastSeen q)) (v .i) (take (a .n) (pasts (a .t .now))) (a .out .now) (c .loop-test .left)
@@ -91,16 +83,13 @@ lay-past-spec =
     (tie.spec
     Inv-loop
     μ-loop
+    trimmed-past-requires
     loop-holds
     sub-i
     past-at-requires
-    covers-requires
-    part-requires
-    mul-out
-    slice-write-out
+    lay-row-requires
+    trimmed-past-requires-2
     loop-less
     loop-again
-    loop-less-2
-    loop-again-2
     same-length
     returns)
