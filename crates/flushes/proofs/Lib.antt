@@ -1,4 +1,5 @@
 pub mod Turns
+pub mod Sharing
 pub mod Listing
 pub mod Marks
 pub mod Staying

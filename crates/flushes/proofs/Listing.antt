@@ -5,17 +5,21 @@ use mathlib.Core.Bool.{Bool, true, false}
 use mathlib.Core.List.{List, [], _∷_, _++_}
 use native.Mathlib.Omega.{arith}
 use lib.ListN.{length, take, drop, getD, set}
-use lib.Dec.{ltb}
-use borrow.Author.Tests.{lt-ltb, le-ltb}
-use Rattle.model.specs.Lists.{either, anyB, tab, someBelow}
+use lib.Dec.{ltb, leb}
+use borrow.Author.Tests.{lt-ltb, le-ltb, lt-leb, le-leb, ltb-true, leb-true}
+use Rattle.model.specs.Lists.{both, either, anyB, tab, someBelow}
 use Rattle.model.specs.Store.{Store, page16, someSlot, objectAt, mark}
 use Rattle.model.specs.Changes.{dueB, dues}
 use Rattle.tables.specs.declared.Heads.{Heads}
 use Rattle.tables.specs.Contents.{contents}
-use Rattle.tables.proofs.Searches.{drop-end}
+use Rattle.tables.proofs.Cases.{clash}
+use Rattle.tables.proofs.Searches.{drop-end, both-left, both-right}
 use Rattle.views.specs.declared.View.{View}
-use Rattle.views.specs.Views.{viewed}
-use Rattle.flushes.specs.Parts.{seenIn, nextView, dueSeen, duesSeen, top}
+use Rattle.views.specs.Views.{viewed, Lookable}
+use Rattle.shares.specs.declared.Lull.{Lull}
+use Rattle.shares.proofs.Laying.{both-not}
+use Rattle.shares.proofs.Lulls.{still-slot}
+use Rattle.flushes.specs.Parts.{seenIn, nextView, dueSeen, duesSeen, quietB, Watched, top}
 use Rattle.flushes.proofs.Turns.{next-row, push, all-added}
 
 -- ---- some slot of a page
@@ -54,6 +58,49 @@ module _ (st : Store) (p m s : ℕ) (ns : List ℕ) where
 
   pub due-not : s ≤ m → false ≡ dueSeen st p m s ns
   due-not l = rw (le-ltb m s l)
+
+-- ---- a lull from a snapshot to the next
+module _ (l : Lull) (newest : ℕ) (known : List ℕ) (n i : ℕ) where
+  abbrev stamp : ℕ
+  stamp = getD known i 0
+
+  abbrev behind : List ℕ
+  behind = drop (i + 1) (take n known)
+
+  pub quiet-last : n ≤ i + 1 → false ≡ quietB l newest stamp behind
+  quiet-last h = rw (drop-end n known (i + 1) h)
+
+  module _ (h : i + 1 < n) (b : n ≤ length known) where
+    pub quiet-early : stamp < l .from → false ≡ quietB l newest stamp behind
+    quiet-early e = rw (next-row known n (i + 1) 0 h b, lt-leb (l .from) stamp e)
+
+    pub quiet-late : l .from ≤ stamp → l .until ≤ getD known (i + 1) 0 → false ≡ quietB l newest stamp behind
+    quiet-late e q = rw (next-row known n (i + 1) 0 h b, le-leb (l .from) stamp e, le-ltb (getD known (i + 1) 0) (l .until) q)
+
+    pub quiet-disk : l .from ≤ stamp → getD known (i + 1) 0 < l .until → leb newest stamp ≡ quietB l newest stamp behind
+    quiet-disk e q = rw (next-row known n (i + 1) 0 h b, le-leb (l .from) stamp e, lt-ltb (getD known (i + 1) 0) (l .until) q)
+
+none-below : (n : ℕ) (f : ℕ → Bool) → ((k : ℕ) → k < n → f k ≡ false) → someBelow n f ≡ false
+none-below zero f h = refl
+none-below (suc n) f h = rw (h n (omega arith)) (none-below n f (λ k b. h k (omega arith)))
+
+no-slot : (f : ℕ → Bool) → ((k : ℕ) → k < 16 → f k ≡ false) → someSlot f ≡ false
+unfolding someSlot
+no-slot f h = none-below 16 f h
+
+-- a snapshot before a lull is not due
+pub due-quiet : (disk dated : List ℕ) (pending past : List (List ℕ)) (h : Heads) (p : ℕ) → Lookable disk dated pending past h p
+    → {l : Lull} {newest : ℕ} → Watched dated pending past h p l newest → (m s : ℕ) (ns : List ℕ) → quietB l newest s ns ≡ true
+    → false ≡ dueSeen (seenIn disk dated pending past h) p m s ns
+due-quiet disk dated pending past h p a w m s [] e = clash (sym e)
+due-quiet disk dated pending past h p a {l} {newest} w m s (n ∷ ns) e =
+    let b = leb-true (l .from) s (both-left (leb (l .from) s) _ e) in
+    let r = both-right (leb (l .from) s) (both (ltb n (l .until)) (leb newest s)) e in
+    let u = ltb-true n (l .until) (both-left (ltb n (l .until)) (leb newest s) r) in
+    let d = leb-true newest s (both-right (ltb n (l .until)) (leb newest s) r) in
+    both-not (ltb m s) _
+    (no-slot (λ k. ltb s (viewed (seenIn disk dated pending past h) (nextView p (n ∷ ns)) (objectAt p k)))
+    (λ k q. le-ltb s _ (still-slot p n disk dated pending past h a l (w .still) s b u k q (omega (arith, w .settled k q)))))
 
 -- ---- all of them: k are listed in D before snapshot i
 module _ (st : Store) (p m : ℕ) (l : List ℕ) (n i : ℕ) (D : List ℕ) (k : ℕ) {W : List ℕ} (v : take k D ++ duesSeen st p m (drop i (take n l)) ≡ W) where

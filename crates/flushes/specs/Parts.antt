@@ -1,10 +1,10 @@
 -- What the functions below the judge and the writer of a flush compute from the lent tables.
 use Prim.Native.Nat.{ℕ, _+_, _≤_, _<_, max}
 use mathlib.Core.Path.{_≡_}
-use mathlib.Core.Bool.{Bool, true, not}
+use mathlib.Core.Bool.{Bool, true, false, not}
 use mathlib.Core.List.{List, [], _∷_, map}
 use lib.ListN.{length, take, getD}
-use lib.Dec.{ltb, eqb}
+use lib.Dec.{ltb, leb, eqb}
 use Rattle.model.specs.declared.Pending.{Pending}
 use Rattle.model.specs.declared.Past.{Past}
 use Rattle.model.specs.declared.Answer.the-variants.{PastFull, ArchiveFull}
@@ -20,6 +20,8 @@ use Rattle.tables.specs.Contents.{contents}
 use Rattle.tables.specs.Lookups.{wantedB}
 use Rattle.views.specs.declared.View.{View}
 use Rattle.views.specs.Views.{viewed}
+use Rattle.shares.specs.declared.Lull.{Lull}
+use Rattle.shares.specs.Lulls.{Still}
 use Rattle.flushes.specs.declared.Rule.{Rule}
 
 -- what a look at a page needs of the store
@@ -37,6 +39,16 @@ dueSeen st p m s ns = both (ltb m s) (someSlot (λ k. ltb s (viewed st (nextView
 abbrev pub duesSeen : Store → ℕ → ℕ → List ℕ → List ℕ
 duesSeen st p m [] = []
 duesSeen st p m (s ∷ ns) = pick (dueSeen st p m s ns) (s ∷ duesSeen st p m ns) (duesSeen st p m ns)
+
+-- from a snapshot to the next known one, the first of those behind it, is a lull, and nothing on disk is newer
+abbrev pub quietB : Lull → ℕ → ℕ → List ℕ → Bool
+quietB l newest s [] = false
+quietB l newest s (n ∷ ns) = both (leb (l .from) s) (both (ltb n (l .until)) (leb newest s))
+
+-- a lull of the page, and the newest of its stamps on disk
+pub record Watched (dated : List ℕ) (pending past : List (List ℕ)) (h : Heads) (page : ℕ) (l : Lull) (newest : ℕ) : Type 0 where
+  pub still : Still pending past h page l
+  pub settled : (k : ℕ) → k < 16 → getD dated (objectAt page k) 0 ≤ newest
 
 -- the largest of a list, 0 where it is empty
 abbrev pub top : List ℕ → ℕ

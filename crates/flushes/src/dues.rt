@@ -1,4 +1,7 @@
 // Which known snapshots are due: those beyond the page's mark after which some object of the page was written, as of the next.
+use crate::Finding;
+use shares::Lull;
+use shares::Share;
 use tables::Disk;
 use tables::Heads;
 use tables::PastTable;
@@ -11,7 +14,8 @@ ghost use lib.ListN.{length, take, drop, getD};
 ghost use lib.Dec.{ltb};
 ghost use Rattle.model.specs.Lists.{anyB};
 ghost use Rattle.views.specs.Views.{Lookable};
-ghost use Rattle.flushes.specs.Parts.{seenIn, nextView, dueSeen, duesSeen, top};
+ghost use Rattle.shares.specs.Shares.{Shared};
+ghost use Rattle.flushes.specs.Parts.{seenIn, nextView, dueSeen, duesSeen, top, quietB, Watched};
 
 // Some word is beyond a stamp.
 fn some_beyond(words: &[u64], s: u64) -> bool
@@ -59,10 +63,14 @@ fn due_at(
     snapshots: &Snapshots,
     h: Heads,
     page: u64,
+    share: Share,
+    row_numbers: &[u8; 256],
+    entry_numbers: &[u8; 128],
     marked: u64,
     i: usize,
 ) -> bool
     requires { ⌜ Lookable (now disk) (now dated) (now pending) (now past) h page ⌝ }
+    requires { ⌜ Shared (now pending) (now past) h page share (now «row_numbers») (now «entry_numbers») ⌝ }
     requires { ⌜ (i < h .snapshots) × (h .snapshots ≤ 64) × (length (now snapshots) ≡ 64) ⌝ }
     ensures { λ r. ⌜ r ≡ dueSeen (seenIn (now (disk .entry)) (now (dated .entry)) (now (pending .entry)) (now (past .entry)) h) page marked (getD (now (snapshots .entry)) i 0) (drop (i + 1) (take (h .snapshots) (now (snapshots .entry)))) ⌝ }
 {
@@ -70,10 +78,103 @@ fn due_at(
     if marked < s {
         let v = next_view(snapshots, h.snapshots, i, page);
         let mut ages = [0u64; 16];
-        views::look_at(disk, dated, pending, past, h, v, &mut ages);
+        shares::look::look_at(
+            disk,
+            dated,
+            pending,
+            past,
+            h,
+            share,
+            row_numbers,
+            entry_numbers,
+            v,
+            &mut ages,
+        );
         return some_beyond(&ages, s);
     }
     false
+}
+
+// From the snapshot at i to the one behind it is a lull, and nothing on disk is newer.
+fn quiet_at(snapshots: &Snapshots, known: usize, i: usize, lull: Lull, newest: u64) -> bool
+    requires { ⌜ (i < known) × (known ≤ 64) × (length (now snapshots) ≡ 64) ⌝ }
+    ensures { λ r. ⌜ r ≡ quietB lull newest (getD (now (snapshots .entry)) i 0) (drop (i + 1) (take known (now (snapshots .entry)))) ⌝ }
+{
+    let behind = i + 1;
+    if known <= behind {
+        return false;
+    }
+    let s = snapshots[i];
+    if s < lull.from {
+        return false;
+    }
+    if lull.until <= snapshots[behind] {
+        return false;
+    }
+    newest <= s
+}
+
+// Whether the snapshot at i is due, and a lull for those behind it. The page is looked at only where the lull does not tell.
+fn find_at(
+    disk: &Disk,
+    dated: &Disk,
+    pending: &PendingTable,
+    past: &PastTable,
+    snapshots: &Snapshots,
+    h: Heads,
+    page: u64,
+    share: Share,
+    row_numbers: &[u8; 256],
+    entry_numbers: &[u8; 128],
+    marked: u64,
+    i: usize,
+    lull: Lull,
+    newest: u64,
+) -> Finding
+    requires { ⌜ Lookable (now disk) (now dated) (now pending) (now past) h page ⌝ }
+    requires { ⌜ Shared (now pending) (now past) h page share (now «row_numbers») (now «entry_numbers») ⌝ }
+    requires { ⌜ (i < h .snapshots) × (h .snapshots ≤ 64) × (length (now snapshots) ≡ 64) ⌝ }
+    requires { ⌜ Watched (now dated) (now pending) (now past) h page lull newest ⌝ }
+    ensures { λ r. ⌜ r .due ≡ dueSeen (seenIn (now (disk .entry)) (now (dated .entry)) (now (pending .entry)) (now (past .entry)) h) page marked (getD (now (snapshots .entry)) i 0) (drop (i + 1) (take (h .snapshots) (now (snapshots .entry)))) ⌝ }
+    ensures { λ r. ⌜ Watched (now (dated .entry)) (now (pending .entry)) (now (past .entry)) h page (r .lull) newest ⌝ }
+{
+    let s = snapshots[i];
+    if s <= marked {
+        return Finding { due: false, lull };
+    }
+    if quiet_at(snapshots, h.snapshots, i, lull, newest) {
+        return Finding { due: false, lull };
+    }
+    if due_at(
+        disk,
+        dated,
+        pending,
+        past,
+        snapshots,
+        h,
+        page,
+        share,
+        row_numbers,
+        entry_numbers,
+        marked,
+        i,
+    ) {
+        return Finding { due: true, lull };
+    }
+    let next = shares::quiet::lull_after(
+        pending,
+        past,
+        h,
+        page,
+        share,
+        row_numbers,
+        entry_numbers,
+        s,
+    );
+    Finding {
+        due: false,
+        lull: next,
+    }
 }
 
 // Lists the due snapshots; the result is their count.
@@ -85,20 +186,42 @@ pub fn list_dues(
     snapshots: &Snapshots,
     h: Heads,
     page: u64,
+    share: Share,
+    row_numbers: &[u8; 256],
+    entry_numbers: &[u8; 128],
     marked: u64,
     due: &mut [u64; 64],
 ) -> usize
     requires { ⌜ Lookable (now disk) (now dated) (now pending) (now past) h page ⌝ }
+    requires { ⌜ Shared (now pending) (now past) h page share (now «row_numbers») (now «entry_numbers») ⌝ }
     requires { ⌜ (h .snapshots ≤ 64) × (length (now snapshots) ≡ 64) × (length (now due) ≡ 64) ⌝ }
     ensures { λ r. ⌜ (take r (now (due .exit)) ≡ duesSeen (seenIn (now (disk .entry)) (now (dated .entry)) (now (pending .entry)) (now (past .entry)) h) page marked (take (h .snapshots) (now (snapshots .entry)))) × (r ≤ 64) × (length (now (due .exit)) ≡ 64) ⌝ }
 {
+    let newest = shares::quiet::newest_on_disk(dated, page);
+    let mut lull = shares::quiet::no_lull(pending, past, h, page);
     let mut i: usize = 0;
     let mut k: usize = 0;
     while i < h.snapshots {
-        let found = due_at(disk, dated, pending, past, snapshots, h, page, marked, i);
+        let found = find_at(
+            disk,
+            dated,
+            pending,
+            past,
+            snapshots,
+            h,
+            page,
+            share,
+            row_numbers,
+            entry_numbers,
+            marked,
+            i,
+            lull,
+            newest,
+        );
         let s = snapshots[i];
         i += 1;
-        if found {
+        lull = found.lull;
+        if found.due {
             due[k] = s;
             k += 1;
         }

@@ -2,6 +2,7 @@
 use crate::Rule;
 use model::Answer;
 use model::Verdict;
+use shares::Share;
 use tables::Disk;
 use tables::Heads;
 use tables::PastTable;
@@ -15,6 +16,7 @@ ghost use Rattle.model.specs.Changes.{ofPage};
 ghost use Rattle.tables.specs.Rows.{pendings, pasts};
 ghost use Rattle.tables.specs.Contents.{Counted};
 ghost use Rattle.views.specs.Views.{Lookable};
+ghost use Rattle.shares.specs.Shares.{Shared};
 ghost use Rattle.flushes.specs.Parts.{ruleOf, staysUnder, leavesUnder, verdictBy};
 
 // Nothing to do, Archive full, Past full, or accepted.
@@ -26,15 +28,18 @@ pub fn verdict(
     snapshots: &Snapshots,
     h: Heads,
     page: u64,
+    share: Share,
+    row_numbers: &[u8; 256],
+    entry_numbers: &[u8; 128],
     dues: usize,
     mark: u64,
 ) -> Verdict
     requires { ⌜ Lookable (now disk) (now dated) (now pending) (now past) h page ⌝ }
+    requires { ⌜ Shared (now pending) (now past) h page share (now «row_numbers») (now «entry_numbers») ⌝ }
     requires { ⌜ (length (now snapshots) ≡ 64) × Counted h × (dues ≤ 64) ⌝ }
     ensures { λ r. ⌜ r ≡ verdictBy (length (kept (ofPage page) (take (h .pending) (pendings (now (pending .entry)))))) dues (h .copies) (length (kept (staysUnder (now (snapshots .entry)) (ruleOf h page mark)) (take (h .past) (pasts (now (past .entry))))) + length (kept (leavesUnder (now (disk .entry)) (now (dated .entry)) (now (snapshots .entry)) (ruleOf h page mark)) (take (h .pending) (pendings (now (pending .entry)))))) ⌝ }
 {
-    let entries = crate::rows::count_entries(pending, h.pending, page);
-    if entries + dues == 0 {
+    if share.entries + dues == 0 {
         return Verdict::Idle;
     }
     if 128 - h.copies < dues {
@@ -46,8 +51,24 @@ pub fn verdict(
         horizon: h.horizon,
         known: h.snapshots,
     };
-    let staying = crate::rows::count_staying(past, h.past, snapshots, rule);
-    let leaving = crate::rows::count_leaving(disk, dated, pending, h.pending, snapshots, rule);
+    let staying = crate::rows::count_staying(
+        past,
+        h.past,
+        row_numbers,
+        share.rows,
+        snapshots,
+        rule,
+    );
+    let leaving = crate::rows::count_leaving(
+        disk,
+        dated,
+        pending,
+        h.pending,
+        entry_numbers,
+        share.entries,
+        snapshots,
+        rule,
+    );
     if 256 < staying + leaving {
         return Verdict::Refused(Answer::PastFull);
     }

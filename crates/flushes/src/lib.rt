@@ -6,6 +6,7 @@ mod rows;
 mod settle;
 
 use model::Verdict;
+use shares::Lull;
 use tables::Copied;
 use tables::CopyTable;
 use tables::Disk;
@@ -37,6 +38,12 @@ pub struct Rule {
     pub known: usize,
 }
 
+// Whether a snapshot is due, and a lull that is known then.
+pub struct Finding {
+    pub due: bool,
+    pub lull: Lull,
+}
+
 // What the store says of the flush: nothing to do, Archive full, Past full, or accepted. The due snapshots are listed.
 pub fn judge_flush(
     disk: &Disk,
@@ -55,9 +62,38 @@ pub fn judge_flush(
     ensures { λ r. ⌜ ((copied : List ℕ) → Listed (contents (now (disk .entry)) (now (dated .entry)) (now (pending .entry)) (now (past .entry)) (now (snapshots .entry)) (now (copies .entry)) copied h) page (now (due .exit)) (r .dues) (r .mark)) ⌝ }
 {
     let marked = tables::lookups::mark_of(copies, h.copies, page);
-    let dues = dues::list_dues(disk, dated, pending, past, snapshots, h, page, marked, due);
+    let mut row_numbers = [0u8; 256];
+    let mut entry_numbers = [0u8; 128];
+    let share = shares::find_share(pending, past, h, page, &mut row_numbers, &mut entry_numbers);
+    let dues = dues::list_dues(
+        disk,
+        dated,
+        pending,
+        past,
+        snapshots,
+        h,
+        page,
+        share,
+        &row_numbers,
+        &entry_numbers,
+        marked,
+        due,
+    );
     let mark = dues::highest(due, dues, marked);
-    let verdict = judge::verdict(disk, dated, pending, past, snapshots, h, page, dues, mark);
+    let verdict = judge::verdict(
+        disk,
+        dated,
+        pending,
+        past,
+        snapshots,
+        h,
+        page,
+        share,
+        &row_numbers,
+        &entry_numbers,
+        dues,
+        mark,
+    );
     Judged {
         verdict,
         dues,
@@ -90,6 +126,9 @@ pub fn apply_flush(
         horizon: h.horizon,
         known: h.snapshots,
     };
+    let mut row_numbers = [0u8; 256];
+    let mut entry_numbers = [0u8; 128];
+    let share = shares::find_share(pending, past, h, page, &mut row_numbers, &mut entry_numbers);
     archive::archive(
         disk,
         dated,
@@ -99,11 +138,25 @@ pub fn apply_flush(
         copied,
         h,
         page,
+        share,
+        &row_numbers,
+        &entry_numbers,
         due,
         dues,
     );
-    let rest = rows::drop_rows(past, h.past, snapshots, rule);
-    let rows = settle::bury(disk, dated, pending, h.pending, past, rest, snapshots, rule);
+    let rest = rows::drop_rows(past, h.past, &row_numbers, share.rows, snapshots, rule);
+    let rows = settle::bury(
+        disk,
+        dated,
+        pending,
+        h.pending,
+        &entry_numbers,
+        share.entries,
+        past,
+        rest,
+        snapshots,
+        rule,
+    );
     let left = settle::settle(disk, dated, pending, h.pending, page);
     Heads {
         pending: left,

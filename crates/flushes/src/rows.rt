@@ -7,11 +7,13 @@ use tables::PastTable;
 use tables::PendingTable;
 use tables::Snapshots;
 ghost use mathlib.Core.Path.{_≡_};
+ghost use mathlib.Core.List.{[]};
 ghost use Prim.Native.Nat.{_<_, _≤_};
 ghost use lib.ListN.{length, take};
 ghost use Rattle.model.specs.Lists.{kept};
 ghost use Rattle.model.specs.Changes.{ofPage};
-ghost use Rattle.tables.specs.Rows.{pendings, pasts};
+ghost use Rattle.tables.specs.Rows.{pendingOf, pastOf, pendings, pasts};
+ghost use Rattle.shares.specs.Shares.{rowOfPage, Numbered};
 ghost use Rattle.flushes.specs.Parts.{Ruled, staysUnder, buriedIn, leavesUnder, Holding};
 
 pub fn of_page(e: Pending, page: u64) -> bool
@@ -62,36 +64,29 @@ pub fn leaves(disk: &Disk, dated: &Disk, e: Pending, snapshots: &Snapshots, rule
     false
 }
 
-pub fn count_entries(pending: &PendingTable, n: usize, page: u64) -> usize
-    requires { ⌜ (n ≤ 128) × (length (pendings (now pending)) ≡ 128) ⌝ }
-    ensures { λ r. ⌜ (r ≡ length (kept (ofPage page) (take n (pendings (now (pending .entry)))))) × (r ≤ n) ⌝ }
-{
-    let mut i: usize = 0;
-    let mut k: usize = 0;
-    while i < n {
-        let e = tables::pending_at(pending, i);
-        i += 1;
-        if of_page(e, page) {
-            k += 1;
-        }
-    }
-    k
-}
-
-pub fn count_staying(past: &PastTable, n: usize, snapshots: &Snapshots, rule: Rule) -> usize
+// Of the first n rows those of other pages stay, and of the page's k some do.
+pub fn count_staying(
+    past: &PastTable,
+    n: usize,
+    numbers: &[u8; 256],
+    k: usize,
+    snapshots: &Snapshots,
+    rule: Rule,
+) -> usize
+    requires { ⌜ Numbered (pastOf []) (rowOfPage (rule .page)) (pasts (now past)) n (now numbers) k ⌝ }
     requires { ⌜ (n ≤ 256) × (length (pasts (now past)) ≡ 256) × Ruled (now snapshots) rule ⌝ }
     ensures { λ r. ⌜ (r ≡ length (kept (staysUnder (now (snapshots .entry)) rule) (take n (pasts (now (past .entry)))))) × (r ≤ n) ⌝ }
 {
-    let mut i: usize = 0;
-    let mut k: usize = 0;
-    while i < n {
-        let q = tables::past_at(past, i);
-        i += 1;
+    let mut staying = n - k;
+    let mut j: usize = 0;
+    while j < k {
+        let q = shares::row_at(past, numbers, j);
+        j += 1;
         if stays(q, snapshots, rule) {
-            k += 1;
+            staying += 1;
         }
     }
-    k
+    staying
 }
 
 pub fn count_leaving(
@@ -99,29 +94,43 @@ pub fn count_leaving(
     dated: &Disk,
     pending: &PendingTable,
     n: usize,
+    numbers: &[u8; 128],
+    k: usize,
     snapshots: &Snapshots,
     rule: Rule,
 ) -> usize
+    requires { ⌜ Numbered (pendingOf []) (ofPage (rule .page)) (pendings (now pending)) n (now numbers) k ⌝ }
     requires { ⌜ (n ≤ 128) × (length (pendings (now pending)) ≡ 128) × (length (now disk) ≡ 512) × (length (now dated) ≡ 512) × Ruled (now snapshots) rule ⌝ }
     ensures { λ r. ⌜ (r ≡ length (kept (leavesUnder (now (disk .entry)) (now (dated .entry)) (now (snapshots .entry)) rule) (take n (pendings (now (pending .entry)))))) × (r ≤ n) ⌝ }
 {
-    let mut i: usize = 0;
-    let mut k: usize = 0;
-    while i < n {
-        let e = tables::pending_at(pending, i);
-        i += 1;
+    let mut leaving: usize = 0;
+    let mut j: usize = 0;
+    while j < k {
+        let e = shares::entry_at(pending, numbers, j);
+        j += 1;
         if leaves(disk, dated, e, snapshots, rule) {
-            k += 1;
+            leaving += 1;
         }
     }
-    k
+    leaving
 }
 
-// Keeps the rows that stay; the result is their count.
-pub fn drop_rows(past: &mut PastTable, n: usize, snapshots: &Snapshots, rule: Rule) -> usize
+// Keeps the rows that stay; the result is their count. Where all stay nothing is moved.
+pub fn drop_rows(
+    past: &mut PastTable,
+    n: usize,
+    numbers: &[u8; 256],
+    k: usize,
+    snapshots: &Snapshots,
+    rule: Rule,
+) -> usize
+    requires { ⌜ Numbered (pastOf []) (rowOfPage (rule .page)) (pasts (now past)) n (now numbers) k ⌝ }
     requires { ⌜ (n ≤ 256) × (length (pasts (now past)) ≡ 256) × Ruled (now snapshots) rule ⌝ }
     ensures { λ r. ⌜ Holding (now (past .exit)) r (kept (staysUnder (now (snapshots .entry)) rule) (take n (pasts (now (past .entry))))) ⌝ }
 {
+    if count_staying(past, n, numbers, k, snapshots, rule) == n {
+        return n;
+    }
     let mut marks = [0u64; 32];
     let at = rule.page as usize;
     marks[at] = rule.mark;

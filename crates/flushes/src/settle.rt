@@ -5,10 +5,12 @@ use tables::PastTable;
 use tables::PendingTable;
 use tables::Snapshots;
 ghost use mathlib.Core.Path.{_≡_};
-ghost use mathlib.Core.List.{_++_};
+ghost use mathlib.Core.List.{[], _++_};
 ghost use Prim.Native.Nat.{_<_, _≤_};
 ghost use lib.ListN.{length, take};
-ghost use Rattle.tables.specs.Rows.{pendings, pasts};
+ghost use Rattle.model.specs.Changes.{ofPage};
+ghost use Rattle.tables.specs.Rows.{pendingOf, pendings, pasts};
+ghost use Rattle.shares.specs.Shares.{Numbered};
 ghost use Rattle.flushes.specs.Parts.{Ruled, graves, Holding, Settled};
 
 // Adds the rows that the entries leave, behind the m that there are; the result is the new count.
@@ -17,19 +19,22 @@ pub fn bury(
     dated: &Disk,
     pending: &PendingTable,
     n: usize,
+    numbers: &[u8; 128],
+    entries: usize,
     past: &mut PastTable,
     m: usize,
     snapshots: &Snapshots,
     rule: Rule,
 ) -> usize
+    requires { ⌜ Numbered (pendingOf []) (ofPage (rule .page)) (pendings (now pending)) n (now numbers) entries ⌝ }
     requires { ⌜ (n ≤ 128) × (length (pendings (now pending)) ≡ 128) × (length (now disk) ≡ 512) × (length (now dated) ≡ 512) × Ruled (now snapshots) rule ⌝ }
     requires { ⌜ (m ≤ 256) × (length (pasts (now past)) ≡ 256) × (length (take m (pasts (now past)) ++ graves (now disk) (now dated) (now snapshots) rule (take n (pendings (now pending)))) ≤ 256) ⌝ }
     ensures { λ r. ⌜ Holding (now (past .exit)) r (take m (pasts (now (past .entry))) ++ graves (now (disk .entry)) (now (dated .entry)) (now (snapshots .entry)) rule (take n (pendings (now (pending .entry))))) ⌝ }
 {
     let mut i: usize = 0;
     let mut k = m;
-    while i < n {
-        let e = tables::pending_at(pending, i);
+    while i < entries {
+        let e = shares::entry_at(pending, numbers, i);
         i += 1;
         if crate::rows::leaves(disk, dated, e, snapshots, rule) {
             let q = crate::rows::buried(disk, dated, e);

@@ -1,6 +1,6 @@
 // One line served: the call that it is, carried out and answered.
 use crate::file;
-use crate::file::Renewed;
+use crate::file::Renewal;
 use crate::help;
 use crate::paths;
 use crate::say;
@@ -8,6 +8,7 @@ use changes::settling::Changed;
 use journal::place::Place;
 use lines::Call;
 use model::Answer;
+use restart::Started;
 use tables::Copied;
 use tables::CopyTable;
 use tables::Disk;
@@ -50,7 +51,7 @@ fn entries(count: usize, list: &[u64]) -> usize
     }
 }
 
-// Commit, gossip and flush.
+// Commit, gossip and flush. No other call comes here.
 fn change(
     disk: &mut Disk,
     dated: &mut Disk,
@@ -154,7 +155,7 @@ fn settled(path: &[u8], journal: &[u8], desk: Desk, done: Changed) -> Desk {
     }
 }
 
-// The reads and standing. False where the answer could not be given.
+// The three reads, and standing. False where the answer could not be given.
 fn show(
     disk: &Disk,
     dated: &Disk,
@@ -229,39 +230,28 @@ fn show(
     }
 }
 
-// Restart from a leading part of the journal, which only a journal in memory allows.
-fn cut(
-    disk: &mut Disk,
-    dated: &mut Disk,
-    pending: &mut PendingTable,
-    past: &mut PastTable,
-    snapshots: &mut Snapshots,
-    copies: &mut CopyTable,
-    copied: &mut Copied,
-    journal: &[u8],
-    desk: Desk,
-    to: usize,
-) -> Desk {
+// What a cut leads to: a restart from the first bytes, or a refusal that was given or not.
+enum Cut {
+    To(usize),
+    Refused(bool),
+}
+
+// Only a journal in memory is cut, to no more bytes than it has.
+fn cut_to(desk: Desk, to: usize) -> Cut {
     let used = desk.place;
     if 0 <= desk.file {
         let said = say::text(b"? cut is for a journal in memory\n");
-        return desk.after(said);
+        return Cut::Refused(said);
     }
     if used.at < to {
         let said = say::refused_beyond(used.at as u64);
-        return desk.after(said);
+        return Cut::Refused(said);
     }
-    let n = paths::within(to, journal);
-    let started = restart::restart(
-        disk,
-        dated,
-        pending,
-        past,
-        snapshots,
-        copies,
-        copied,
-        &journal[..n],
-    );
+    Cut::To(to)
+}
+
+// A store that was started anew is answered.
+fn renewed(started: Started, file: i32) -> Desk {
     let heads = started.heads;
     let place = started.place;
     let answer = started.answer;
@@ -269,46 +259,12 @@ fn cut(
     Desk {
         heads,
         place,
-        file: desk.file,
+        file,
         going,
     }
 }
 
-fn fresh(
-    disk: &mut Disk,
-    dated: &mut Disk,
-    pending: &PendingTable,
-    past: &PastTable,
-    snapshots: &Snapshots,
-    copies: &CopyTable,
-    copied: &Copied,
-    path: &[u8],
-    desk: Desk,
-) -> Desk {
-    let renewed = file::renew(path, desk.file);
-    match renewed {
-        Renewed::File(next) => {
-            let file = next;
-            let started = restart::fresh(disk, dated, pending, past, snapshots, copies, copied);
-            let heads = started.heads;
-            let place = started.place;
-            let answer = started.answer;
-            let going = say::answer(answer);
-            Desk {
-                heads,
-                place,
-                file,
-                going,
-            }
-        }
-        Renewed::Barred => {
-            let said = say::refused(path, b".old is in the way");
-            desk.after(said)
-        }
-        Renewed::Failed => desk.after(false),
-    }
-}
-
+// A line without a call is passed over.
 pub fn served(
     disk: &mut Disk,
     dated: &mut Disk,
@@ -337,31 +293,51 @@ pub fn served(
             let said = say::wrong(f, c);
             desk.after(said)
         }
-        Call::Fresh => fresh(
-            disk,
-            dated,
-            pending,
-            past,
-            snapshots,
-            copies,
-            copied,
-            path,
-            desk,
-        ),
-        Call::Cut(n) => {
-            let to = n as usize;
-            cut(
-                disk,
-                dated,
-                pending,
-                past,
-                snapshots,
-                copies,
-                copied,
-                journal,
-                desk,
-                to,
-            )
+        Call::Fresh => {
+            let renewal = file::renew(path, desk.file);
+            match renewal {
+                Renewal::File(next) => {
+                    let file = next;
+                    let started = restart::fresh(
+                        disk,
+                        dated,
+                        pending,
+                        past,
+                        snapshots,
+                        copies,
+                        copied,
+                    );
+                    renewed(started, file)
+                }
+                Renewal::Barred => {
+                    let said = say::refused(path, b".old is in the way");
+                    desk.after(said)
+                }
+                Renewal::Failed => desk.after(false),
+            }
+        }
+        Call::Cut(count) => {
+            let cut = cut_to(desk, count as usize);
+            match cut {
+                Cut::To(to) => {
+                    let n = paths::within(to, journal);
+                    let started = restart::restart(
+                        disk,
+                        dated,
+                        pending,
+                        past,
+                        snapshots,
+                        copies,
+                        copied,
+                        &journal[..n],
+                    );
+                    renewed(started, desk.file)
+                }
+                Cut::Refused(said) => {
+                    let going = said;
+                    desk.after(going)
+                }
+            }
         }
         Call::Read(_, _) | Call::Clock(_, _) | Call::Now(_) | Call::Standing => {
             let said = show(

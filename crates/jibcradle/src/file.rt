@@ -149,7 +149,7 @@ pub fn is_saved(path: &[u8], file: i32, journal: &[u8], old: usize, new: usize) 
 }
 
 // What came of a new file in the place of the old one, which is kept as JOURNAL.old.
-pub enum Renewed {
+pub enum Renewal {
     File(i32),
     Barred,
     Failed,
@@ -165,23 +165,23 @@ pub fn is_free(name: &[u8]) -> bool {
     false
 }
 
-pub fn renew(path: &[u8], file: i32) -> Renewed {
+pub fn renew(path: &[u8], file: i32) -> Renewal {
     if file < 0 {
-        return Renewed::File(file);
+        return Renewal::File(file);
     }
     let mut name = io::buffer();
     let n = paths::joined(path, b".old", &mut name);
     if !is_free(&name[..n]) {
-        return Renewed::Barred;
+        return Renewal::Barred;
     }
     if os::rename(path, &name[..n]) != 0 {
         os::fail(path);
-        return Renewed::Failed;
+        return Renewal::Failed;
     }
     let next = made(path);
     if next < 0 {
-        return Renewed::Failed;
+        return Renewal::Failed;
     }
     libc::close(file);
-    Renewed::File(next)
+    Renewal::File(next)
 }

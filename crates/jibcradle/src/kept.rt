@@ -10,6 +10,7 @@ use crate::lock;
 use crate::paths;
 use crate::say;
 use journal::place::Place;
+use restart::Started;
 use tables::Copied;
 use tables::CopyTable;
 use tables::Disk;
@@ -43,7 +44,10 @@ fn closed() -> Desk {
 
 // The store of a journal that was read: what lies behind its last whole record is cut off the file, since a shorter record written
 // over it would leave a rest; and the file is synced, since a record from before a kill may be in it and not yet there for good.
-fn begun(path: &[u8], file: i32, started: restart::Started) -> Desk {
+fn begun(path: &[u8], file: i32, whole: Whole, started: Started) -> Desk {
+    if let Whole::Failed = whole {
+        return closed();
+    }
     let answer = started.answer;
     let heads = started.heads;
     let place = started.place;
@@ -68,37 +72,14 @@ fn begun(path: &[u8], file: i32, started: restart::Started) -> Desk {
     desk
 }
 
-// Restarts from the bytes that were read.
-fn start(
-    disk: &mut Disk,
-    dated: &mut Disk,
-    pending: &mut PendingTable,
-    past: &mut PastTable,
-    snapshots: &mut Snapshots,
-    copies: &mut CopyTable,
-    copied: &mut Copied,
-    journal: &[u8; 65536],
-    whole: Whole,
-    path: &[u8],
-    file: i32,
-) -> Desk {
+// The bytes that were read: none where reading failed.
+fn length_of(whole: Whole, journal: &[u8; 65536]) -> usize
+    ensures { λ r. ⌜ Counts r (now (journal .entry)) ⌝ }
+{
     let bytes = &journal[..];
     match whole {
-        Whole::Failed => closed(),
-        Whole::Bytes(count) => {
-            let n = paths::within(count, bytes);
-            let started = restart::restart(
-                disk,
-                dated,
-                pending,
-                past,
-                snapshots,
-                copies,
-                copied,
-                &bytes[..n],
-            );
-            begun(path, file, started)
-        }
+        Whole::Bytes(count) => paths::within(count, bytes),
+        Whole::Failed => paths::within(0, bytes),
     }
 }
 
@@ -168,7 +149,8 @@ fn serve(path: &[u8], file: i32, source: i32) {
     let mut copied = [0u64; 2048];
     let mut journal = io::large_buffer();
     let whole = file::read(path, file, &mut journal);
-    let desk = start(
+    let n = length_of(whole, &journal);
+    let started = restart::restart(
         &mut disk,
         &mut dated,
         &mut pending,
@@ -176,11 +158,9 @@ fn serve(path: &[u8], file: i32, source: i32) {
         &mut snapshots,
         &mut copies,
         &mut copied,
-        &journal,
-        whole,
-        path,
-        file,
+        &journal[..n],
     );
+    let desk = begun(path, file, whole, started);
     let mut buffer = input::buffer();
     let input = laid(&mut buffer, source);
     let most = room(&journal);
@@ -200,6 +180,7 @@ fn serve(path: &[u8], file: i32, source: i32) {
     );
 }
 
+// The input at its start. The night's lines are in the buffer already.
 fn laid(buffer: &mut [u8], source: i32) -> Input
     ensures { λ r. ⌜ Within r (length (now (buffer .exit))) ⌝ }
 {

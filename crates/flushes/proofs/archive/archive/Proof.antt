@@ -12,11 +12,11 @@ use Rattle.flushes.proofs.archive.archive.Statement.{statement}
 use Rattle.flushes.proofs.archive.archive.Tie as tie
 
 abbrev Inv-loop : tie.InvT-loop
-Inv-loop disk dated pending past copies₀ copied₀ h page due dues i₀ copies copied i = (i ≤ dues) × (length (copyHeads copies) ≡ 128) × (length copied ≡ 2048)
+Inv-loop disk dated pending past copies₀ copied₀ h page share row-numbers entry-numbers due dues i₀ copies copied i = (i ≤ dues) × (length (copyHeads copies) ≡ 128) × (length copied ≡ 2048)
     × (take (h .copies + i) (copiesOf (copyHeads copies) copied) ++ map (copyIn disk dated pending past h page) (drop i (take dues due)) ≡ take (h .copies) (copiesOf (copyHeads copies₀) copied₀) ++ map (copyIn disk dated pending past h page) (take dues due))
 
 abbrev μ-loop : tie.MeasureT-loop
-μ-loop disk dated pending past copies₀ copied₀ h page due dues i₀ copies copied i = dues - i
+μ-loop disk dated pending past copies₀ copied₀ h page share row-numbers entry-numbers due dues i₀ copies copied i = dues - i
 
 loop-holds : tie.Need-loop-holds Inv-loop μ-loop
 loop-holds c = let a = c .args in
@@ -32,7 +32,8 @@ add-at : tie.Need-add-at Inv-loop μ-loop
 add-at c = search needs
 
 put-whole-requires : tie.Need-put-whole-requires Inv-loop μ-loop
-put-whole-requires c κs = search needs
+put-whole-requires c κs = let s = c .before .before .before .before .before .before in
+    (s .pre .0, (s .pre .1 .0, (omega arith, search needs, search needs)))
 
 add-i : tie.Need-add-i Inv-loop μ-loop
 add-i c = search needs

@@ -21,7 +21,8 @@ part-look-at-end : tie.Need-part-look-at-end
 part-look-at-end c = search needs
 
 look-at-requires : tie.Need-look-at-requires
-look-at-requires c κs = search needs
+look-at-requires c κs = let s = c .before .before in
+    (s .pre .0, (s .pre .1 .0, search needs))
 
 same-length : tie.Need-same-length
 same-length c = search needs

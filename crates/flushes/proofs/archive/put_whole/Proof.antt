@@ -15,7 +15,8 @@ mul-put-values : tie.Need-mul-put-values
 mul-put-values c = search needs
 
 put-values-requires : tie.Need-put-values-requires
-put-values-requires c κs = search needs
+put-values-requires c κs = let s = c .before in
+    (s .pre .0, (s .pre .1 .0, omega (arith, s .pre .1 .1 .0, s .pre .1 .1 .2)))
 
 put-copy-requires : tie.Need-put-copy-requires
 put-copy-requires c κs = search needs
@@ -29,8 +30,8 @@ returns c = let s = c .before .before .before .before in
     let r = c .before .before .put-values .ensures in
     record {
       all = whole-put ws n _ (copyHeads (a .copies .now)) (a .copied .now) (a .i) (omega arith) (omega arith) q r;
-      copy-rows = ap length q ∙ simp length-set (s .pre .1 .1);
-      copied-words = ap length r ∙ over-length (a .copied .now) (16 * a .i) ws n (omega arith) ∙ s .pre .1 .2;
+      copy-rows = ap length q ∙ simp length-set (s .pre .1 .1 .1);
+      copied-words = ap length r ∙ over-length (a .copied .now) (16 * a .i) ws n (omega arith) ∙ s .pre .1 .1 .2;
     }
 
 pub put-whole-spec : {M : Type 1} → statement M

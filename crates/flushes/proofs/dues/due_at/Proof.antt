@@ -6,6 +6,7 @@ use lib.ListN.{take, drop, getD}
 use borrow.Author.Needs.{needs}
 use Rattle.views.specs.Views.{Lookable}
 use Rattle.views.specs.declared.View.{View}
+use Rattle.shares.specs.Shares.{Shared}
 use Rattle.flushes.specs.Parts.{seenIn}
 use Rattle.flushes.proofs.Listing.{due-seen, due-not}
 use Rattle.flushes.proofs.dues.due_at.Statement.{statement}
@@ -24,8 +25,12 @@ slice-aggregate-look-at : tie.Need-slice-aggregate-look-at
 slice-aggregate-look-at c = search needs
 
 look-at-requires : tie.Need-look-at-requires
-look-at-requires c κs = let a = c .before .before .before .before .args in
-    (subst (λ (v : View). Lookable (a .disk .now) (a .dated .now) (a .pending .now) (a .past .now) (a .h) (v .page)) (sym (c .before .next-view .ensures)) (c .before .before .before .before .pre .0), search needs)
+look-at-requires c κs = let s = c .before .before .before .before in
+    let a = s .args in
+    let e = sym (c .before .next-view .ensures) in (
+      subst (λ (v : View). Lookable (a .disk .now) (a .dated .now) (a .pending .now) (a .past .now) (a .h) (v .page)) e (s .pre .0),
+      (subst (λ (v : View). Shared (a .pending .now) (a .past .now) (a .h) (v .page) (a .share) (a .row-numbers .now) (a .entry-numbers .now)) e (s .pre .1 .0), search needs),
+    )
 
 slice-aggregate-some-beyond : tie.Need-slice-aggregate-some-beyond
 slice-aggregate-some-beyond c = search needs

@@ -7,7 +7,8 @@ use borrow.Author.Needs.{needs}
 use Rattle.model.specs.Changes.{ofPage}
 use Rattle.model.specs.Lists.{kept}
 use Rattle.tables.specs.Rows.{pendings, pasts}
-use Rattle.flushes.specs.Parts.{ruleOf, staysUnder, leavesUnder}
+use Rattle.shares.proofs.Numbers.{numbered-count}
+use Rattle.flushes.specs.Parts.{Ruled, ruleOf, staysUnder, leavesUnder}
 use Rattle.flushes.proofs.Verdicts.{say-idle, say-archive, say-past, say-accepted}
 use Rattle.flushes.proofs.judge.verdict.Statement.{statement}
 use Rattle.flushes.proofs.judge.verdict.Tie as tie
@@ -22,18 +23,18 @@ rows s =
     length (kept (staysUnder (a .snapshots .now) (ruleOf (a .h) (a .page) (a .mark))) (take (a .h .past) (pasts (a .past .now))))
     + length (kept (leavesUnder (a .disk .now) (a .dated .now) (a .snapshots .now) (ruleOf (a .h) (a .page) (a .mark))) (take (a .h .pending) (pendings (a .pending .now))))
 
-some : (c : tie.Else1) → entries (c .before .before) + c .before .before .args .dues ≡ 0 → ⊥
-some c z = c .if1 .left (omega (arith, c .before .count-entries .ensures .0))
+ruled : (s : tie.Start) → Ruled (s .args .snapshots .now) (ruleOf (s .args .h) (s .args .page) (s .args .mark))
+ruled s = record { snapshot-words = s .pre .1 .1 .0; known-count = s .pre .1 .1 .1 .snapshot-count; in-range = s .pre .0 .in-range }
 
-count-entries-requires : tie.Need-count-entries-requires
-count-entries-requires c κs = search needs
+some : (c : tie.Else1) → entries (c .before .before) + c .before .before .args .dues ≡ 0 → ⊥
+some c z = c .if1 .left (omega (arith, numbered-count (c .before .before .pre .1 .0 .entries)))
 
 add-if1 : tie.Need-add-if1
 add-if1 c = search needs
 
 returns : tie.Need-returns
 returns c = let s = c .before .before in
-    say-idle (entries s) (s .args .dues) (s .args .h .copies) (rows s) (omega arith)
+    say-idle (entries s) (s .args .dues) (s .args .h .copies) (rows s) (omega (arith, numbered-count (s .pre .1 .0 .entries)))
 
 sub-if2 : tie.Need-sub-if2
 sub-if2 c = search needs
@@ -43,10 +44,12 @@ returns-2 c = let s = c .before .before .before .before in
     say-archive (entries s) (s .args .dues) (s .args .h .copies) (rows s) (some (c .before .before)) (omega arith) (c .if2 .taken)
 
 count-staying-requires : tie.Need-count-staying-requires
-count-staying-requires c κs = search needs
+count-staying-requires c κs = let s = c .before .before .before .before in
+    (s .pre .1 .0 .past-rows, (s .pre .0 .past-count, s .pre .0 .past-rows, ruled s))
 
 count-leaving-requires : tie.Need-count-leaving-requires
-count-leaving-requires c κs = search needs
+count-leaving-requires c κs = let s = c .before .before .before .before .before in
+    (s .pre .1 .0 .entries, (s .pre .0 .pending-count, s .pre .0 .pending-rows, s .pre .0 .value-words, s .pre .0 .stamp-words, ruled s))
 
 add-if3 : tie.Need-add-if3
 add-if3 c = search needs
@@ -63,7 +66,6 @@ pub verdict-spec : {M : Type 1} → statement M
 verdict-spec =
     tie.close
     (tie.spec
-    count-entries-requires
     add-if1
     returns
     sub-if2
