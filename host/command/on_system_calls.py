@@ -81,7 +81,7 @@ def synced_before_it_is_acknowledged(bench):
     out, calls = traced(bench, path, lines)
     expect(len(lines_in(out)) == 6, "answers", shown(out))
     order = order_of(calls, path)
-    expect(re.fullmatch(r"a+(w+sa+){5}s?", order), "write, sync, answer come in the order", order)
+    expect(re.fullmatch(r"a+s(w+sa+){5}s?", order), "write, sync, answer come in the order", order)
     refused = [b"commit 7 0=1", b"now 0", b"standing", b"flush 1", b"x"]
     _, calls = traced(bench, path, refused)
     order = order_of(calls, path)
@@ -153,7 +153,8 @@ def a_disk_that_fails(bench):
     lines = [b"commit %d 3=%d" % (stamp + 1 + turn, turn) for turn in range(4)]
     for name, turn, fault in product(("pwrite64", "fdatasync"), (1, 2, 4), ("EIO", "ENOSPC")):
         put(bench.path(), before.journal)
-        words = ["-o", os.devnull, "-e", "trace=" + name, "-e", "inject=%s:error=%s:when=%d" % (name, fault, turn)]
+        when = turn + (name == "fdatasync")  # the first sync is of the opening
+        words = ["-o", os.devnull, "-e", "trace=" + name, "-e", "inject=%s:error=%s:when=%d" % (name, fault, when)]
         out, err = strace(bench, words, bench.path(), b"\n".join(lines) + b"\n")
         try:
             data = expect_stopped(bench, bench.path(), before, lines, out, err)

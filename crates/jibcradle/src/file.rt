@@ -87,8 +87,20 @@ pub fn read(path: &[u8], file: i32, journal: &mut [u8]) -> Whole {
 }
 
 // Cuts the file to its first bytes, for good.
-pub fn is_cut(path: &[u8], file: i32, to: usize) -> bool {
+fn is_cut(path: &[u8], file: i32, to: usize) -> bool {
     if libc::ftruncate(file, offset(to)) == 0 && libc::fdatasync(file) == 0 {
+        return true;
+    }
+    os::fail(path);
+    false
+}
+
+// The file holds so many of the bytes that were read, for good.
+pub fn is_settled(path: &[u8], file: i32, to: usize, read: usize) -> bool {
+    if to < read {
+        return is_cut(path, file, to);
+    }
+    if libc::fdatasync(file) == 0 {
         return true;
     }
     os::fail(path);

@@ -44,7 +44,7 @@ fn closed() -> Desk {
 
 // The store of a journal that was read: what lies behind its last whole record is cut off the file, since a shorter record written
 // over it would leave a rest; and the file is synced, since a record from before a kill may be in it and not yet there for good.
-fn begun(path: &[u8], file: i32, whole: Whole, started: Started) -> Desk {
+fn begun(path: &[u8], file: i32, whole: Whole, read: usize, started: Started) -> Desk {
     if let Whole::Failed = whole {
         return closed();
     }
@@ -66,7 +66,7 @@ fn begun(path: &[u8], file: i32, whole: Whole, started: Started) -> Desk {
     if answer.code() != 0 {
         return closed();
     }
-    if !file::is_cut(path, file, place.at) {
+    if !file::is_settled(path, file, place.at, read) {
         return closed();
     }
     desk
@@ -160,7 +160,7 @@ fn serve(path: &[u8], file: i32, source: i32) {
         &mut copied,
         &journal[..n],
     );
-    let desk = begun(path, file, whole, started);
+    let desk = begun(path, file, whole, n, started);
     let mut buffer = input::buffer();
     let input = laid(&mut buffer, source);
     let most = room(&journal);

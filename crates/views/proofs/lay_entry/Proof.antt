@@ -1,5 +1,5 @@
 -- The word is put where the test passes, and else nothing changes.
-use mathlib.Core.Path.{_≡_, sym, _∙_}
+use mathlib.Core.Path.{sym, _∙_}
 use borrow.Author.Needs.{needs}
 use Rattle.model.specs.Store.{slotOf, pendingSeen}
 use Rattle.views.specs.Views.{partOf, showsB}
