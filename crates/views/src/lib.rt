@@ -59,7 +59,7 @@ fn shows(e: Pending, v: View) -> bool
     }
 }
 
-fn part(ages: bool, value: u64, stamp: u64) -> u64
+pub fn part(ages: bool, value: u64, stamp: u64) -> u64
     ensures { λ r. ⌜ r ≡ partOf ages (record { value = value; stamp = stamp }) ⌝ }
 {
     if ages { stamp } else { value }
@@ -115,7 +115,7 @@ fn lay_pending(t: &PendingTable, n: usize, v: View, out: &mut [u64])
 }
 
 // The page's sixteen words on disk.
-fn lay_disk(disk: &Disk, dated: &Disk, v: View, out: &mut [u64])
+pub fn lay_disk(disk: &Disk, dated: &Disk, v: View, out: &mut [u64])
     requires { ⌜ (length (now disk) ≡ 512) × (length (now dated) ≡ 512) × (v .page + 1 ≤ 32) × (length (now out) ≡ 16) ⌝ }
     ensures { λ _. ⌜ now (out .exit) ≡ page16 (λ k. partOf (v .ages) (record { value = getD (now (disk .entry)) (objectAt (v .page) k) 0; stamp = getD (now (dated .entry)) (objectAt (v .page) k) 0 })) ⌝ }
 {
