@@ -1,4 +1,4 @@
-pub mod Undamaged
 pub mod Shapes
+pub mod Undamaged
 pub mod Rooms
 pub mod Outcomes

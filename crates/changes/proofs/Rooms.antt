@@ -1,8 +1,7 @@
 -- A verdict with the journal's room: each answer by its case, and what an answer of code 0 tells.
 use Prim.Native.Nat.{ℕ, _+_, _≤_, _<_}
 use mathlib.Core.Path.{_≡_, refl}
-use mathlib.Core.Bool.{Bool, true, false}
-use mathlib.Core.List.{List}
+use mathlib.Core.List.{List, []}
 use native.Mathlib.Omega.{arith}
 use lib.ListN.{length}
 use lib.Dec.{ltb, leb, eqb}
@@ -15,10 +14,11 @@ use Rattle.model.specs.Answers.{codeOf}
 use Rattle.model.specs.Lists.{pick, kept}
 use Rattle.model.specs.Store.{Store}
 use Rattle.model.specs.Changes.{Change, commit, gossip, flush}
-use Rattle.model.specs.Judgement.{judge, judgeGossip}
+use Rattle.model.specs.Judgement.{judge, judgeGossip, judgeFlush}
 use Rattle.model.specs.Records.{lengthOf}
 use Rattle.model.specs.Calls.{reached, roomed}
 use Rattle.tables.specs.declared.Heads.{Heads}
+use Rattle.tables.specs.Rows.{upTo}
 use Rattle.tables.specs.Contents.{contents}
 use Rattle.tables.proofs.Cases.{by-test}
 use Rattle.tables.proofs.Counts.{up-to-length}
@@ -80,3 +80,16 @@ pub gossip-room : (disk dated : List ℕ) (pending past : List (List ℕ)) (snap
     → judgeGossip (contents disk dated pending past snapshots copies copied h) prev curr stamps ≡ Accepted → h .snapshots + length (kept (ltb (h .horizon)) stamps) ≤ 64
 gossip-room disk dated pending past snapshots copies copied h prev curr stamps e =
     rw (up-to-length 0 (h .snapshots) snapshots) at (gossips.accepted-room (contents disk dated pending past snapshots copies copied h) prev curr stamps e)
+
+-- ---- without entries and snapshots a flush has nothing to do
+up-to-none : {A : Type 0} (d : A) (n : ℕ) (rows : List A) → n ≡ 0 → upTo d n rows ≡ []
+up-to-none d n rows e = rw e
+
+empty-idle : (st : Store) (p : ℕ) → st .pending ≡ [] → st .snapshots ≡ [] → Idle ≡ judgeFlush st p
+unfolding judgeFlush
+empty-idle st p e f = rw (e, f)
+
+pub flush-idle : (disk dated : List ℕ) (pending past : List (List ℕ)) (snapshots : List ℕ) (copies : List (List ℕ)) (copied : List ℕ) (h : Heads) (p : ℕ) → h .pending + h .snapshots ≡ 0
+    → Idle ≡ judgeFlush (contents disk dated pending past snapshots copies copied h) p
+flush-idle disk dated pending past snapshots copies copied h p e =
+    empty-idle (contents disk dated pending past snapshots copies copied h) p (up-to-none _ (h .pending) _ (omega arith)) (up-to-none _ (h .snapshots) _ (omega arith))

@@ -7,7 +7,7 @@ use native.Mathlib.Omega.{arith}
 use lib.ListN.{length}
 use lib.Dec.{leb, eqb}
 use borrow.Author.Tests.{leb-true, eqb-true}
-use Rattle.model.specs.Lists.{both, twiceB}
+use Rattle.model.specs.Lists.{both, twiceB, risingFrom}
 use Rattle.model.specs.Changes.{commit, objectsOf, paired}
 use Rattle.model.specs.Judgement.{objectsShaped, stampsShaped, twice}
 use Rattle.model.specs.Records.{lengthOf}
@@ -16,7 +16,7 @@ use Rattle.tables.proofs.Cases.{by-test, clash}
 use Rattle.journal.proofs.Places.{paired-length}
 use Rattle.journal.proofs.Walks.{paired-objects}
 
-both-split : (a b : Bool) → both a b ≡ true → (a ≡ true) × (b ≡ true)
+pub both-split : (a b : Bool) → both a b ≡ true → (a ≡ true) × (b ≡ true)
 both-split true b e = (refl, e)
 both-split false b e = clash (sym e)
 
@@ -44,7 +44,7 @@ formed good j used shape e =
     let n = leb-true used (length j) (c .1) in
     record { makes = b .0; placed = omega arith; shaped = a .1 }
 
--- ---- lists in shape are short
+-- ---- lists in shape are short, and the stamps ascend
 pub objects-short : (os : List ℕ) → objectsShaped os ≡ true → length os ≤ 16
 unfolding objectsShaped
 objects-short os e =
@@ -56,6 +56,12 @@ unfolding stampsShaped
 stamps-short prev curr stamps e =
     let a = both-split (both (leb (length stamps) 16) (leb prev curr)) _ e in
     leb-true (length stamps) 16 (both-split (leb (length stamps) 16) _ (a .0) .0)
+
+pub stamps-rise : (prev curr : ℕ) (stamps : List ℕ) → stampsShaped prev curr stamps ≡ true → risingFrom prev stamps ≡ true
+unfolding stampsShaped
+stamps-rise prev curr stamps e =
+    let a = both-split (both (leb (length stamps) 16) (leb prev curr)) _ e in
+    both-split (risingFrom prev stamps) _ (a .1) .0
 
 -- ---- a commit by its two lists: where they are of unequal number no test of the pairs counts
 module _ (os vs : List ℕ) where

@@ -71,9 +71,7 @@ pub fn commit(
             place: used,
         };
     }
-    let mut rows = [0usize; 16];
-    commits::rows_by_index(&index[..], objects, &mut rows);
-    let verdict = commits::judge_commit(pending, snapshots, copies, h, t, objects, &rows);
+    let verdict = commits::judge_commit(pending, snapshots, copies, h, t, objects, &index);
     let answer = crate::settling::settled(verdict, journal, used, 10 + 10 * objects.len());
     if answer.code() != 0 {
         return Changed {
@@ -91,7 +89,7 @@ pub fn commit(
         t,
         objects,
         values,
-        &rows,
+        &mut index,
     );
     let place = used.append_commit(journal, t, objects, values);
     Changed {

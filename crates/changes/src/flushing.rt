@@ -51,7 +51,17 @@ pub fn flush(
             place: used,
         };
     }
+    // Without entries and snapshots there is nothing to flush, on any page.
+    if h.pending + h.snapshots == 0 {
+        return Changed {
+            heads: h,
+            answer: Answer::Nothing(used.at as u64),
+            place: used,
+        };
+    }
     let mut due = [0u64; 64];
+    let mut row_numbers = [0u8; 256];
+    let mut entry_numbers = [0u8; 128];
     let judged = flushes::judge_flush(
         disk,
         dated,
@@ -62,6 +72,8 @@ pub fn flush(
         h,
         page,
         &mut due,
+        &mut row_numbers,
+        &mut entry_numbers,
     );
     let verdict = judged.verdict;
     let answer = crate::settling::settled(verdict, journal, used, 2);
@@ -83,8 +95,9 @@ pub fn flush(
         h,
         page,
         &due,
-        judged.dues,
-        judged.mark,
+        &row_numbers,
+        &entry_numbers,
+        judged.plan,
     );
     let place = used.append_flush(journal, page);
     Changed {

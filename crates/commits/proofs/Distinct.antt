@@ -1,5 +1,5 @@
--- A list that names no object twice; and a write of one object, which leaves every other object's entry and its row as they were.
-use Prim.Native.Nat.{ℕ, suc}
+-- A list that names no object twice; and a write of one object, which leaves every other object's entry as it was.
+use Prim.Native.Nat.{ℕ}
 use mathlib.Core.Path.{_≡_, refl}
 use mathlib.Core.Bool.{Bool, true, false}
 use mathlib.Core.List.{List, [], _∷_, map}
@@ -9,7 +9,6 @@ use Rattle.model.specs.declared.Pending.{Pending}
 use Rattle.model.specs.Lists.{either, elemB, twiceB}
 use Rattle.model.specs.Store.{lookup}
 use Rattle.model.specs.Changes.{put}
-use Rattle.tables.specs.Lookups.{firstAt}
 use Rattle.tables.proofs.Cases.{by-test, clash}
 
 either-false : (a b : Bool) → either a b ≡ false → (a ≡ false) × (b ≡ false)
@@ -35,14 +34,6 @@ module _ (o t v x : ℕ) (n : eqb x o ≡ false) where
   lookup-other [] = rw (other o refl)
   lookup-other (e ∷ es) =
       let ih = lookup-other es in
-      by-test (eqb (e .object) o)
-      (λ q. rw (q, other (e .object) (eqb-true _ _ q)))
-      (λ q. rw (q, ih))
-
-  pub find-other : (es : List Pending) (k : ℕ) → firstAt (λ e. eqb (e .object) x) (put o t v es) k ≡ firstAt (λ e. eqb (e .object) x) es k
-  find-other [] k = rw (other o refl)
-  find-other (e ∷ es) k =
-      let ih = find-other es (suc k) in
       by-test (eqb (e .object) o)
       (λ q. rw (q, other (e .object) (eqb-true _ _ q)))
       (λ q. rw (q, ih))

@@ -5,8 +5,8 @@ use mathlib.Core.Bool.{Bool, true, false}
 use mathlib.Core.List.{List, [], map}
 use native.Mathlib.Omega.{arith}
 use lib.ListN.{length, take}
-use lib.Dec.{ltb, leb, eqb}
-use borrow.Author.Tests.{lt-ltb, le-ltb, le-leb, lt-leb, ltb-false}
+use lib.Dec.{ltb, leb}
+use borrow.Author.Tests.{lt-ltb, le-ltb, le-leb, lt-leb, ltb-false, leb-false}
 use Rattle.model.specs.declared.Pending.{Pending}
 use Rattle.model.specs.declared.Answer.{Answer}
 use Rattle.model.specs.declared.Answer.the-variants.{Late, PendingFull, PastFull}
@@ -20,39 +20,38 @@ use Rattle.model.specs.Judgement.{judgeCommit}
 use Rattle.tables.specs.declared.Heads.{Heads}
 use Rattle.tables.specs.Rows.{pendingOf, pastOf, pendings, pasts, upTo}
 use Rattle.tables.specs.Contents.{contents}
+use Rattle.tables.proofs.Cases.{by-test}
 use Rattle.tables.proofs.Counts.{up-to-length}
 use Rattle.commits.specs.Rows.{trues, newIn, liveBy, displacesIn}
 use Rattle.commits.specs.Promises.{Ready, Room}
 use Rattle.commits.proofs.Growth.{pending-growth, past-growth}
-use Rattle.commits.proofs.Finding.{pending-taken, new-rows}
+use Rattle.commits.proofs.Finding.{pending-taken}
 
 -- ---- the verdict, test by test
 module _ (st : Store) (t : ℕ) (ws : List Write) where
-  say-late : t ≤ st .last → Refused (Late (max (st .last) (st .horizon))) ≡ judgeCommit st t ws
+  say-late : t ≤ max (st .last) (st .horizon) → Refused (Late (max (st .last) (st .horizon))) ≡ judgeCommit st t ws
   unfolding judgeCommit
-  say-late l = rw (le-leb t (st .last) l)
+  say-late l =
+      by-test (leb t (st .last))
+      (λ q. rw q)
+      (λ q. rw (q, le-leb t (st .horizon) (omega (arith, leb-false t (st .last) q))))
 
-  module _ (l : st .last < t) where
-    say-behind : t ≤ st .horizon → Refused (Late (max (st .last) (st .horizon))) ≡ judgeCommit st t ws
+  module _ (l : st .last < t) (h : st .horizon < t) where
+    say-pending : 128 < length (commitStore st t ws .pending) → Refused PendingFull ≡ judgeCommit st t ws
     unfolding judgeCommit
-    say-behind h = rw (lt-leb t (st .last) l, le-leb t (st .horizon) h)
+    say-pending p = rw (lt-leb t (st .last) l, lt-leb t (st .horizon) h, lt-ltb 128 _ p)
 
-    module _ (h : st .horizon < t) where
-      say-pending : 128 < length (commitStore st t ws .pending) → Refused PendingFull ≡ judgeCommit st t ws
+    module _ (p : length (commitStore st t ws .pending) ≤ 128) where
+      say-past : 256 < length (commitStore st t ws .past) → Refused PastFull ≡ judgeCommit st t ws
       unfolding judgeCommit
-      say-pending p = rw (lt-leb t (st .last) l, lt-leb t (st .horizon) h, lt-ltb 128 _ p)
+      say-past q = rw (lt-leb t (st .last) l, lt-leb t (st .horizon) h, le-ltb 128 _ p, lt-ltb 256 _ q)
 
-      module _ (p : length (commitStore st t ws .pending) ≤ 128) where
-        say-past : 256 < length (commitStore st t ws .past) → Refused PastFull ≡ judgeCommit st t ws
-        unfolding judgeCommit
-        say-past q = rw (lt-leb t (st .last) l, lt-leb t (st .horizon) h, le-ltb 128 _ p, lt-ltb 256 _ q)
-
-        say-accepted : length (commitStore st t ws .past) ≤ 256 → Accepted ≡ judgeCommit st t ws
-        unfolding judgeCommit
-        say-accepted q = rw (lt-leb t (st .last) l, lt-leb t (st .horizon) h, le-ltb 128 _ p, le-ltb 256 _ q)
+      say-accepted : length (commitStore st t ws .past) ≤ 256 → Accepted ≡ judgeCommit st t ws
+      unfolding judgeCommit
+      say-accepted q = rw (lt-leb t (st .last) l, lt-leb t (st .horizon) h, le-ltb 128 _ p, le-ltb 256 _ q)
 
 -- ---- the lengths that a commit would leave, by the counts that the code makes; and the verdict by them
-module _ {pending : List (List ℕ)} {snapshots : List ℕ} {copies : List (List ℕ)} {h : Heads} {os rows : List ℕ} (r : Ready pending snapshots copies h os rows) (t : ℕ) where
+module _ {pending : List (List ℕ)} {snapshots : List ℕ} {copies : List (List ℕ)} {h : Heads} {os index : List ℕ} (r : Ready pending snapshots copies h os index) (t : ℕ) where
   abbrev entries : List Pending
   entries = upTo (pendingOf []) (h .pending) (pendings pending)
 
@@ -60,7 +59,7 @@ module _ {pending : List (List ℕ)} {snapshots : List ℕ} {copies : List (List
   as-taken = pending-taken pending h (r .pending-rows) (r .counted)
 
   abbrev news : ℕ
-  news = trues (map (λ row. eqb row 128) (take (length os) rows))
+  news = trues (map (newIn (take (h .pending) (pendings pending))) os)
 
   abbrev olds : List ℕ → ℕ
   olds copied = trues (map (displacesIn (liveBy snapshots copies copied h) t (take (h .pending) (pendings pending))) os)
@@ -72,11 +71,10 @@ module _ {pending : List (List ℕ)} {snapshots : List ℕ} {copies : List (List
     left-pending : length (commitStore before t (paired os vs) .pending) ≡ h .pending + news
     unfolding lastAt
     left-pending =
-        let c = r .counted .pending-count in
         let n : length entries ≡ h .pending = up-to-length (pendingOf []) (h .pending) (pendings pending) in
         let g : length (commitStore before t (paired os vs) .pending) ≡ length entries + trues (map (newIn entries) os) =
         pending-growth t os vs (lastAt before t) l (r .once) in
-        rw (r .found, ← as-taken, new-rows entries (omega arith) os) (omega arith)
+        rw (← as-taken) (omega arith)
 
     left-past : length (commitStore before t (paired os vs) .past) ≡ h .past + olds copied
     unfolding lastAt
@@ -91,35 +89,31 @@ module _ {pending : List (List ℕ)} {snapshots : List ℕ} {copies : List (List
   Says v = (disk dated : List ℕ) (past : List (List ℕ)) (copied vs : List ℕ) → length vs ≡ length os
       → v ≡ judgeCommit (contents disk dated pending past snapshots copies copied h) t (paired os vs)
 
-  module _ {m : ℕ} (e : m ≡ max (h .last) (h .horizon)) where
-    pub judged-late : t ≤ h .last → Says (Refused (Late m))
+  module _ {latest : ℕ} (late : latest ≡ max (h .last) (h .horizon)) where
+    pub judged-late : t ≤ latest → Says (Refused (Late latest))
     judged-late b disk dated past copied vs l =
-        ap (λ n. Refused (Late n)) e ∙ say-late (before disk dated past copied vs l) t (paired os vs) b
+        ap (λ n. Refused (Late n)) late ∙ say-late (before disk dated past copied vs l) t (paired os vs) (omega arith)
 
-    pub judged-behind : h .last < t → t ≤ h .horizon → Says (Refused (Late m))
-    judged-behind a b disk dated past copied vs l =
-        ap (λ n. Refused (Late n)) e ∙ say-behind (before disk dated past copied vs l) t (paired os vs) a b
-
-  module _ (a : h .last < t) (b : h .horizon < t) {n : ℕ} (e : n ≡ news) where
-    pub judged-pending : 128 - h .pending < n → Says (Refused PendingFull)
-    judged-pending f disk dated past copied vs l =
-        let x = left-pending disk dated past copied vs l in
-        say-pending (before disk dated past copied vs l) t (paired os vs) a b (omega arith)
-
-    module _ (f : n ≤ 128 - h .pending) {m : ℕ} (d : (copied : List ℕ) → m ≡ olds copied) where
-      pub judged-past : 256 - h .past < m → Says (Refused PastFull)
-      judged-past g disk dated past copied vs l =
-          let c = r .counted in
+    module _ (b : latest < t) {n : ℕ} (e : n ≡ news) where
+      pub judged-pending : 128 - h .pending < n → Says (Refused PendingFull)
+      judged-pending f disk dated past copied vs l =
           let x = left-pending disk dated past copied vs l in
-          let y = left-past disk dated past copied vs l in
-          say-past (before disk dated past copied vs l) t (paired os vs) a b (omega arith) (omega (arith, d copied))
+          say-pending (before disk dated past copied vs l) t (paired os vs) (omega arith) (omega arith) (omega arith)
 
-      pub judged-accepted : m ≤ 256 - h .past → Says Accepted
-      judged-accepted g disk dated past copied vs l =
-          let c = r .counted in
-          let x = left-pending disk dated past copied vs l in
-          let y = left-past disk dated past copied vs l in
-          say-accepted (before disk dated past copied vs l) t (paired os vs) a b (omega arith) (omega (arith, d copied))
+      module _ (f : n ≤ 128 - h .pending) {m : ℕ} (d : (copied : List ℕ) → m ≡ olds copied) where
+        pub judged-past : 256 - h .past < m → Says (Refused PastFull)
+        judged-past g disk dated past copied vs l =
+            let c = r .counted in
+            let x = left-pending disk dated past copied vs l in
+            let y = left-past disk dated past copied vs l in
+            say-past (before disk dated past copied vs l) t (paired os vs) (omega arith) (omega arith) (omega arith) (omega (arith, d copied))
+
+        pub judged-accepted : m ≤ 256 - h .past → Says Accepted
+        judged-accepted g disk dated past copied vs l =
+            let c = r .counted in
+            let x = left-pending disk dated past copied vs l in
+            let y = left-past disk dated past copied vs l in
+            say-accepted (before disk dated past copied vs l) t (paired os vs) (omega arith) (omega arith) (omega arith) (omega (arith, d copied))
 
 -- ---- what a verdict tells
 abbrev Told : Store → ℕ → List Write → Verdict → Type 0

@@ -19,7 +19,7 @@ use Rattle.tables.specs.Contents.{contents, Counted}
 use Rattle.tables.proofs.Copies.{noCopy, copies-of-length}
 use Rattle.tables.proofs.Counts.{up-to-take, up-to-length}
 use Rattle.tables.proofs.Bridges.{touched, opened, put-row, put-next, lookup-row, lookup-none}
-use Rattle.commits.specs.Rows.{oneIf, newB, liveBy, displacesIn}
+use Rattle.commits.specs.Rows.{oneIf, newB, newIn, liveBy, displacesIn}
 use Rattle.commits.specs.Promises.{OneReady, Room, Wrote, Added, pastWith}
 use Rattle.commits.proofs.Growth.{put-length}
 use Rattle.commits.proofs.Finding.{pending-taken, row-at, row-none}
@@ -76,6 +76,13 @@ module _ {pending : List (List ℕ)} {snapshots : List ℕ} {copies : List (List
 
   entry-at : row < 128 → lookup o entries ≡ some entry
   entry-at l = lookup-row o (pendings pending) (h .pending) row in-table (at-row l)
+
+  -- whether it has one
+  pub old-at : row < 128 → false ≡ newIn entries o
+  old-at l = rw (entry-at l)
+
+  pub new-none : 128 ≤ row → true ≡ newIn entries o
+  new-none l = rw (lookup-none o entries (no-row l))
 
   -- what a write there displaces
   pub displaces-at : row < 128 → (t : ℕ) {e : Pending} {q : Past} {b : Bool} → e ≡ entry → q ≡ closed e o t → ((copied : List ℕ) → b ≡ liveBy snapshots copies copied h q)

@@ -1,36 +1,39 @@
 -- What the judge and the writer of a commit ask and promise. The tables that a function isn't lent may be any.
 use Prim.Native.Nat.{ℕ, _≤_}
 use mathlib.Core.Path.{_≡_}
-use mathlib.Core.Bool.{false}
+use mathlib.Core.Bool.{true, false}
 use mathlib.Core.List.{List, []}
 use lib.ListN.{length, take}
+use lib.Dec.{ltb}
 use Rattle.model.specs.declared.Past.{Past}
-use Rattle.model.specs.Lists.{twiceB, addIf}
+use Rattle.model.specs.Lists.{allB, twiceB, risingFrom, addIf}
 use Rattle.model.specs.Store.{Store}
 use Rattle.model.specs.Changes.{Write, writeOne, commitStore}
 use Rattle.tables.specs.declared.Heads.{Heads}
 use Rattle.tables.specs.Rows.{pastOf, pendings, pasts, copyHeads, upTo}
-use Rattle.tables.specs.Lookups.{findPending, rowOf}
+use Rattle.tables.specs.Lookups.{findPending, rowOf, Indexed}
 use Rattle.tables.specs.Contents.{contents, Counted}
-use Rattle.commits.specs.Rows.{rowsOf, liveBy}
+use Rattle.commits.specs.Rows.{liveBy}
 
--- whole tables, counts within them, a well-formed list of objects, and the row of each object's entry
-pub record Ready (pending : List (List ℕ)) (snapshots : List ℕ) (copies : List (List ℕ)) (h : Heads) (os rows : List ℕ) : Type 0 where
+-- whole tables, counts within them, ascending snapshots, a well-formed list of objects, and an index of the entries
+pub record Ready (pending : List (List ℕ)) (snapshots : List ℕ) (copies : List (List ℕ)) (h : Heads) (os index : List ℕ) : Type 0 where
   pub pending-rows : length (pendings pending) ≡ 128
   pub snapshot-words : length snapshots ≡ 64
   pub copy-rows : length (copyHeads copies) ≡ 128
   pub counted : Counted h
+  pub rising : risingFrom 0 (take (h .snapshots) snapshots) ≡ true
   pub short : length os ≤ 16
   pub once : twiceB os ≡ false
-  pub room-for-rows : length rows ≡ 16
-  pub found : take (length os) rows ≡ rowsOf os (take (h .pending) (pendings pending))
+  pub in-range : allB (λ o. ltb o 512) os ≡ true
+  pub indexed : Indexed index (take (h .pending) (pendings pending))
 
--- the same for one object
+-- the same for one object, and the row of its entry
 pub record OneReady (pending : List (List ℕ)) (snapshots : List ℕ) (copies : List (List ℕ)) (h : Heads) (o row : ℕ) : Type 0 where
   pub pending-rows : length (pendings pending) ≡ 128
   pub snapshot-words : length snapshots ≡ 64
   pub copy-rows : length (copyHeads copies) ≡ 128
   pub counted : Counted h
+  pub rising : risingFrom 0 (take (h .snapshots) snapshots) ≡ true
   pub found : row ≡ rowOf (findPending o (take (h .pending) (pendings pending)))
 
 -- the store fits the two tables that a commit adds to

@@ -1,17 +1,13 @@
--- The row of each object's entry, found once and handed from the judge to the writer; and what a commit adds, counted.
+-- What a commit adds, counted.
 use Prim.Native.Nat.{ℕ, _+_}
 use mathlib.Core.Bool.{Bool, true, false}
-use mathlib.Core.List.{List, [], _∷_, map}
+use mathlib.Core.List.{List, [], _∷_}
 use Rattle.model.specs.declared.Pending.{Pending}
 use Rattle.model.specs.declared.Past.{Past}
 use Rattle.model.specs.Store.{Store, Slot, none, some, lookup, liveB}
 use Rattle.model.specs.Changes.{closed}
 use Rattle.tables.specs.declared.Heads.{Heads}
-use Rattle.tables.specs.Lookups.{findPending, rowOf}
 use Rattle.tables.specs.Contents.{contents}
-
-abbrev pub rowsOf : List ℕ → List Pending → List ℕ
-rowsOf os es = map (λ o. rowOf (findPending o es)) os
 
 -- how many are true
 abbrev pub oneIf : Bool → ℕ

@@ -4,86 +4,31 @@ use model::Past;
 use model::Pending;
 use model::Verdict;
 use tables::CopyTable;
-use tables::Found;
 use tables::Heads;
+use tables::Index;
 use tables::PastTable;
 use tables::PendingTable;
 use tables::Snapshots;
 ghost use mathlib.Core.Path.{_≡_};
 ghost use mathlib.Core.Bool.{true};
 ghost use mathlib.Core.List.{List, map};
-ghost use Prim.Native.Nat.{ℕ, _≤_, max};
+ghost use Prim.Native.Nat.{ℕ, _≤_, _<_, max};
 ghost use lib.ListN.{length, take};
-ghost use lib.Dec.{eqb, ltb};
 ghost use Rattle.model.specs.declared.Pending.{Pending};
-ghost use Rattle.model.specs.Lists.{allB};
+ghost use Rattle.model.specs.Lists.{risingFrom};
 ghost use Rattle.model.specs.Changes.{paired, closed, writeOne, commitStore};
 ghost use Rattle.model.specs.Judgement.{judgeCommit};
 ghost use Rattle.tables.specs.Rows.{pendings, pasts, copyHeads};
 ghost use Rattle.tables.specs.Lookups.{findPending, rowOf, Indexed};
 ghost use Rattle.tables.specs.Contents.{contents, Counted};
-ghost use Rattle.commits.specs.Rows.{rowsOf, trues, liveBy, displacesIn};
+ghost use Rattle.commits.specs.Rows.{trues, newIn, liveBy, displacesIn};
 ghost use Rattle.commits.specs.Promises.{Ready, OneReady, Room, Applied, Wrote, Added, pastWith};
-
-// The row of an object's pending entry, 128 where it has none.
-fn row_of(t: &PendingTable, n: usize, object: u64) -> usize
-    requires { ⌜ (n ≤ 128) × (length (pendings (now t)) ≡ 128) ⌝ }
-    ensures { λ r. ⌜ r ≡ rowOf (findPending object (take n (pendings (now (t .entry))))) ⌝ }
-{
-    let f = tables::lookups::find_pending(t, n, object);
-    match f {
-        Found::At(i) => i,
-        Found::Nothing => 128,
-    }
-}
-
-// The row of each object's pending entry, 128 where it has none: found once, for the judge and for the writer.
-pub fn find_rows(t: &PendingTable, n: usize, objects: &[u64], rows: &mut [usize; 16])
-    requires { ⌜ (n ≤ 128) × (length (pendings (now t)) ≡ 128) × (length (now objects) ≤ 16) × (length (now rows) ≡ 16) ⌝ }
-    ensures { λ _. ⌜ (take (length (now (objects .entry))) (now (rows .exit)) ≡ rowsOf (now (objects .entry)) (take n (pendings (now (t .entry))))) × (length (now (rows .exit)) ≡ 16) ⌝ }
-{
-    let mut k: usize = 0;
-    while k < objects.len() {
-        rows[k] = row_of(t, n, objects[k]);
-        k += 1;
-    }
-}
-
-// The same rows, by an index of the entries.
-pub fn rows_by_index(index: &[u8], objects: &[u64], rows: &mut [usize; 16])
-    requires { ⌜ (length (now index) ≡ 512) × (allB (λ o. ltb o 512) (now objects) ≡ true) × (length (now objects) ≤ 16) × (length (now rows) ≡ 16) ⌝ }
-    ensures { λ _. ⌜ ((es : List Pending) → Indexed (now (index .entry)) es → take (length (now (objects .entry))) (now (rows .exit)) ≡ rowsOf (now (objects .entry)) es) × (length (now (rows .exit)) ≡ 16) ⌝ }
-{
-    let mut k: usize = 0;
-    while k < objects.len() {
-        let object = objects[k] as usize;
-        rows[k] = index[object] as usize;
-        k += 1;
-    }
-}
 
 // The larger of two stamps.
 fn later(a: u64, b: u64) -> u64
     ensures { λ r. ⌜ r ≡ max a b ⌝ }
 {
     if a < b { b } else { a }
-}
-
-// How many of the first n objects have no entry.
-fn count_new(rows: &[usize; 16], n: usize) -> usize
-    requires { ⌜ (n ≤ 16) × (length (now rows) ≡ 16) ⌝ }
-    ensures { λ r. ⌜ r ≡ trues (map (λ row. eqb row 128) (take n (now (rows .entry)))) ⌝ }
-{
-    let mut added: usize = 0;
-    let mut k: usize = 0;
-    while k < n {
-        let row = rows[k];
-        k += 1;
-        if row == 128 {
-            added += 1;
-        }
-    }
-    added
 }
 
 // The past value that an entry leaves where a write at t displaces it.
@@ -100,10 +45,19 @@ fn close(e: Pending, object: u64, t: u64) -> Past
 
 // A past value is live, by the snapshots and the copies that the heads count.
 fn lives(q: Past, snapshots: &Snapshots, copies: &CopyTable, h: Heads) -> bool
-    requires { ⌜ (length (now snapshots) ≡ 64) × (length (copyHeads (now copies)) ≡ 128) × Counted h ⌝ }
+    requires { ⌜ (length (now snapshots) ≡ 64) × (length (copyHeads (now copies)) ≡ 128) × Counted h × (risingFrom 0 (take (h .snapshots) (now snapshots)) ≡ true) ⌝ }
     ensures { λ r. ⌜ ((copied : List ℕ) → r ≡ liveBy (now (snapshots .entry)) (now (copies .entry)) copied h q) ⌝ }
 {
     tables::lookups::live(q, h.horizon, snapshots, h.snapshots, copies, h.copies)
+}
+
+// The row of an object's pending entry by the index, 128 where it has none.
+fn row_of(index: &[u8], object: u64) -> usize
+    requires { ⌜ (object < 512) × (length (now index) ≡ 512) ⌝ }
+    ensures { λ r. ⌜ ((es : List Pending) → Indexed (now (index .entry)) es → r ≡ rowOf (findPending object es)) ⌝ }
+{
+    let at = object as usize;
+    index[at] as usize
 }
 
 // Whether a write at t displaces a live value.
@@ -126,29 +80,42 @@ fn displaces(
     false
 }
 
-// How many past values the writes add.
-fn count_displaced(
+// How many entries and how many past values a commit's writes add.
+pub struct Weight {
+    pub entries: usize,
+    pub rows: usize,
+}
+
+// No object is named twice, so each write is weighed over the tables as they are before the first.
+fn weigh(
     pending: &PendingTable,
     snapshots: &Snapshots,
     copies: &CopyTable,
     h: Heads,
     t: u64,
     objects: &[u64],
-    rows: &[usize; 16],
-) -> usize
-    requires { ⌜ Ready (now pending) (now snapshots) (now copies) h (now objects) (now rows) ⌝ }
-    ensures { λ r. ⌜ ((copied : List ℕ) → r ≡ trues (map (displacesIn (liveBy (now (snapshots .entry)) (now (copies .entry)) copied h) t (take (h .pending) (pendings (now (pending .entry))))) (now (objects .entry)))) ⌝ }
+    index: &[u8],
+) -> Weight
+    requires { ⌜ Ready (now pending) (now snapshots) (now copies) h (now objects) (now index) ⌝ }
+    ensures { λ r. ⌜ r .entries ≡ trues (map (newIn (take (h .pending) (pendings (now (pending .entry))))) (now (objects .entry))) ⌝ }
+    ensures { λ r. ⌜ ((copied : List ℕ) → r .rows ≡ trues (map (displacesIn (liveBy (now (snapshots .entry)) (now (copies .entry)) copied h) t (take (h .pending) (pendings (now (pending .entry))))) (now (objects .entry)))) ⌝ }
 {
-    let mut added: usize = 0;
+    let mut entries: usize = 0;
+    let mut rows: usize = 0;
     let mut k: usize = 0;
     while k < objects.len() {
-        let live = displaces(pending, snapshots, copies, h, t, objects[k], rows[k]);
+        let object = objects[k];
+        let row = row_of(index, object);
         k += 1;
-        if live {
-            added += 1;
+        if row < 128 {
+            if displaces(pending, snapshots, copies, h, t, object, row) {
+                rows += 1;
+            }
+        } else {
+            entries += 1;
         }
     }
-    added
+    Weight { entries, rows }
 }
 
 // What the store says of the commit: Late, Pending full, Past full, or accepted.
@@ -159,23 +126,20 @@ pub fn judge_commit(
     h: Heads,
     t: u64,
     objects: &[u64],
-    rows: &[usize; 16],
+    index: &[u8],
 ) -> Verdict
-    requires { ⌜ Ready (now pending) (now snapshots) (now copies) h (now objects) (now rows) ⌝ }
+    requires { ⌜ Ready (now pending) (now snapshots) (now copies) h (now objects) (now index) ⌝ }
     ensures { λ r. ⌜ ((disk dated : List ℕ) (past : List (List ℕ)) (copied vs : List ℕ) → length vs ≡ length (now (objects .entry)) → r ≡ judgeCommit (contents disk dated (now (pending .entry)) past (now (snapshots .entry)) (now (copies .entry)) copied h) t (paired (now (objects .entry)) vs)) ⌝ }
 {
-    if t <= h.last {
-        return Verdict::Refused(Answer::Late(later(h.last, h.horizon)));
+    let latest = later(h.last, h.horizon);
+    if t <= latest {
+        return Verdict::Refused(Answer::Late(latest));
     }
-    if t <= h.horizon {
-        return Verdict::Refused(Answer::Late(later(h.last, h.horizon)));
-    }
-    let added = count_new(rows, objects.len());
-    if 128 - h.pending < added {
+    let w = weigh(pending, snapshots, copies, h, t, objects, index);
+    if 128 - h.pending < w.entries {
         return Verdict::Refused(Answer::PendingFull);
     }
-    let displaced = count_displaced(pending, snapshots, copies, h, t, objects, rows);
-    if 256 - h.past < displaced {
+    if 256 - h.past < w.rows {
         return Verdict::Refused(Answer::PastFull);
     }
     Verdict::Accepted
@@ -189,7 +153,7 @@ fn add_live(
     h: Heads,
     q: Past,
 ) -> usize
-    requires { ⌜ (length (now snapshots) ≡ 64) × (length (copyHeads (now copies)) ≡ 128) × Counted h ⌝ }
+    requires { ⌜ (length (now snapshots) ≡ 64) × (length (copyHeads (now copies)) ≡ 128) × Counted h × (risingFrom 0 (take (h .snapshots) (now snapshots)) ≡ true) ⌝ }
     requires { ⌜ (length (pasts (now past)) ≡ 256) × ((copied : List ℕ) → length (pastWith (now past) (now snapshots) (now copies) copied h q) ≤ 256) ⌝ }
     ensures { λ r. ⌜ Added (now (past .entry)) (now (past .exit)) (now (snapshots .entry)) (now (copies .entry)) h r q ⌝ }
 {
@@ -240,7 +204,7 @@ fn write_one(
     after
 }
 
-// The commit's writes, in their order. The judge has accepted them, so there is room.
+// The commit's writes, in their order. The judge has accepted them, so there is room. The index follows the entries.
 pub fn apply_commit(
     pending: &mut PendingTable,
     past: &mut PastTable,
@@ -250,16 +214,20 @@ pub fn apply_commit(
     t: u64,
     objects: &[u64],
     values: &[u64],
-    rows: &[usize; 16],
+    index: &mut Index,
 ) -> Heads
-    requires { ⌜ Ready (now pending) (now snapshots) (now copies) h (now objects) (now rows) ⌝ }
+    requires { ⌜ Ready (now pending) (now snapshots) (now copies) h (now objects) (now index) ⌝ }
     requires { ⌜ (length (pasts (now past)) ≡ 256) × (length (now values) ≡ length (now objects)) × ((disk dated copied : List ℕ) → Room (commitStore (contents disk dated (now pending) (now past) (now snapshots) (now copies) copied h) t (paired (now objects) (now values)))) ⌝ }
     ensures { λ r. ⌜ Applied (now (pending .entry)) (now (past .entry)) (now (pending .exit)) (now (past .exit)) (now (snapshots .entry)) (now (copies .entry)) h r t (paired (now (objects .entry)) (now (values .entry))) ⌝ }
+    ensures { λ r. ⌜ Indexed (now (index .exit)) (take (r .pending) (pendings (now (pending .exit)))) ⌝ }
 {
     let mut after = h;
     after.last = t;
     let mut k: usize = 0;
     while k < objects.len() {
+        let object = objects[k];
+        let row = row_of(&index[..], object);
+        let new = after.pending;
         after = write_one(
             pending,
             past,
@@ -267,11 +235,15 @@ pub fn apply_commit(
             copies,
             after,
             t,
-            objects[k],
+            object,
             values[k],
-            rows[k],
+            row,
         );
         k += 1;
+        if 128 <= row {
+            let at = object as usize;
+            index[at] = new as u8;
+        }
     }
     after
 }

@@ -1,16 +1,15 @@
 -- What the tests of damage find, by the model's definitions: objects met again, a chain of tests, and the counts.
-use Prim.Native.Nat.{ℕ, zero, suc, _+_, _<_, _≤_}
+use Prim.Native.Nat.{ℕ, zero, suc, _<_, _≤_}
 use mathlib.Core.Path.{_≡_, refl, ap, _∙_, sym}
 use mathlib.Core.Bool.{Bool, true, false, not}
 use mathlib.Core.List.{List, [], _∷_, map}
-use native.Mathlib.Numerals.{add-one}
 use native.Mathlib.Omega.{arith}
-use lib.ListN.{length, take, drop, getD, set, replicate, length-map, List·getD-map, drop-of-length-le}
-use lib.Seq.{length-take-le, drop-cons, getD-take, getD-set-same, getD-set-other}
-use lib.Dec.{ltb, leb, eqb}
-use borrow.Author.Tests.{eqb-true, eqb-false, ltb-false, leb-true, leb-false, lt-ltb, le-ltb}
+use lib.ListN.{length, take, getD, length-map, List·getD-map}
+use lib.Seq.{length-take-le, getD-take}
+use lib.Dec.{ltb, leb}
+use borrow.Author.Tests.{ltb-false, leb-true, leb-false, lt-ltb, le-ltb}
 use Rattle.model.specs.declared.Pending.{Pending}
-use Rattle.model.specs.Lists.{both, either, anyB, allB, elemB, twiceB}
+use Rattle.model.specs.Lists.{both, either, anyB, allB, twiceB}
 use Rattle.model.specs.Damage.{overfull, misnumbered, doubled, misordered, damaged}
 use Rattle.rules.proofs.Laws.{within}
 use Rattle.tables.specs.declared.Heads.{Heads}

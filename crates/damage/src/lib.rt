@@ -78,21 +78,21 @@ fn copies_out(t: &CopyTable, n: usize) -> bool
 }
 
 // Two of the entries are of one object; where none are, the index tells the row of each object's entry.
+// No entry ends the loop early: fresh stays 128 until an object comes that has a row already.
 fn met_again(t: &PendingTable, n: usize, index: &mut Index) -> bool
     requires { ⌜ (n ≤ 128) × (length (pendings (now t)) ≡ 128) × (anyB (λ e. leb 512 (e .object)) (take n (pendings (now t))) ≡ false) × (length (now index) ≡ 512) × ((o : ℕ) → getD (now index) o 128 ≡ 128) ⌝ }
     ensures { λ r. ⌜ (r ≡ twiceB (map (λ e. e .object) (take n (pendings (now (t .entry)))))) × (r ≡ false → Indexed (now (index .exit)) (take n (pendings (now (t .entry))))) ⌝ }
 {
+    let mut fresh: u8 = 128;
     let mut i: usize = 0;
     while i < n {
         let e = tables::pending_at(t, i);
         let object = e.object as usize;
-        if index[object] < 128 {
-            return true;
-        }
+        fresh = fresh & index[object];
         index[object] = i as u8;
         i += 1;
     }
-    false
+    fresh < 128
 }
 
 // Damaged; where it is not, the index tells the row of each object's entry. It comes with 128 for every object.

@@ -38,14 +38,14 @@ module _ (disk dated : List ℕ) (pending past : List (List ℕ)) (snapshots : L
       ∙ dues-same disk dated pending past snapshots copies copied h page marked f (st .snapshots) in
       record { listed = d; room-for-dues = l .2; within = l .1; marks = omega (arith, t, f, ap top d, mark-after st page) }
 
-  pub judging : {due : List ℕ} {n m : ℕ} → Listed st page due n m → {v : Verdict}
+  pub judging : {due : List ℕ} {n m k : ℕ} → Listed st page due n m → k ≡ length (kept (staysUnder snapshots (ruleOf h page m)) (take (h .past) (pasts past))) → {v : Verdict}
       → v ≡ verdictBy (length (kept (ofPage page) (take (h .pending) (pendings pending)))) n (h .copies)
-      (length (kept (staysUnder snapshots (ruleOf h page m)) (take (h .past) (pasts past))) + length (kept (leavesUnder disk dated snapshots (ruleOf h page m)) (take (h .pending) (pendings pending))))
+      (k + length (kept (leavesUnder disk dated snapshots (ruleOf h page m)) (take (h .pending) (pendings pending))))
       → v ≡ judgeFlush st page
-  judging l e =
-      let k = same disk dated pending past snapshots copies copied h page a in
+  judging {due} {n} {m} {k} l q e =
+      let z = same disk dated pending past snapshots copies copied h page a in
       e
-      ∙ verdict-same (ap (λ x. length (kept (ofPage page) (x .pending))) (sym k)) (sym (dues-count disk dated pending past snapshots copies copied h page a l))
+      ∙ verdict-same (ap (λ x. length (kept (ofPage page) (x .pending))) (sym z)) (sym (dues-count disk dated pending past snapshots copies copied h page a l))
       (sym (up-to-length noCopy (h .copies) (copiesOf (copyHeads copies) copied)))
-      (sym (past-count disk dated pending past snapshots copies copied h page a l))
+      (ap (λ x. x + length (kept (leavesUnder disk dated snapshots (ruleOf h page m)) (take (h .pending) (pendings pending)))) q ∙ sym (past-count disk dated pending past snapshots copies copied h page a l))
       ∙ sym (judged st page)

@@ -1,6 +1,7 @@
 pub mod Turns
 pub mod Sharing
 pub mod Listing
+pub mod Rising
 pub mod Marks
 pub mod Staying
 pub mod Copying

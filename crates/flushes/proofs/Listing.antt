@@ -1,25 +1,27 @@
 -- The due snapshots: what makes one due, how they are listed, and the largest of them.
-use Prim.Native.Nat.{ℕ, zero, suc, _+_, _≤_, _<_, max}
+use Prim.Native.Nat.{ℕ, zero, suc, _+_, _-_, _*_, _≤_, _<_, max}
 use mathlib.Core.Path.{_≡_, refl, ap, sym, _∙_}
 use mathlib.Core.Bool.{Bool, true, false}
 use mathlib.Core.List.{List, [], _∷_, _++_}
 use native.Mathlib.Omega.{arith}
-use lib.ListN.{length, take, drop, getD, set}
-use lib.Dec.{ltb, leb}
-use borrow.Author.Tests.{lt-ltb, le-ltb, lt-leb, le-leb, ltb-true, leb-true}
-use Rattle.model.specs.Lists.{both, either, anyB, tab, someBelow}
+use lib.ListN.{length, take, drop, getD, set, length-take, length-drop}
+use lib.Seq.{getD-take, getD-drop}
+use lib.Dec.{ltb}
+use borrow.Author.Tests.{lt-ltb, le-ltb}
+use Rattle.model.specs.Lists.{either, anyB, risingFrom, tab, someBelow}
 use Rattle.model.specs.Store.{Store, page16, someSlot, objectAt, mark}
 use Rattle.model.specs.Changes.{dueB, dues}
 use Rattle.tables.specs.declared.Heads.{Heads}
 use Rattle.tables.specs.Contents.{contents}
-use Rattle.tables.proofs.Cases.{clash}
-use Rattle.tables.proofs.Searches.{drop-end, both-left, both-right}
+use Rattle.tables.proofs.Searches.{drop-end}
 use Rattle.views.specs.declared.View.{View}
 use Rattle.views.specs.Views.{viewed, Lookable}
-use Rattle.shares.specs.declared.Lull.{Lull}
+use Rattle.shares.specs.Lulls.{Lull, Still}
+use Rattle.shares.specs.Many.{FirstFrom, Pages, pageAt}
 use Rattle.shares.proofs.Laying.{both-not}
 use Rattle.shares.proofs.Lulls.{still-slot}
-use Rattle.flushes.specs.Parts.{seenIn, nextView, dueSeen, duesSeen, quietB, Watched, top}
+use Rattle.shares.proofs.Orders.{rising-at, first-inside, first-before, first-behind}
+use Rattle.flushes.specs.Parts.{seenIn, nextView, dueSeen, duesSeen, Telling, ListedTo, top}
 use Rattle.flushes.proofs.Turns.{next-row, push, all-added}
 
 -- ---- some slot of a page
@@ -42,7 +44,7 @@ any-page f g = any-tab 16 f g
 
 -- ---- one snapshot
 module _ (p : ℕ) (l : List ℕ) (n j : ℕ) where
-  pub next-some : j < n → n ≤ length l → record { page = p; current = false; stamp = getD l j 0; ages = true } ≡ nextView p (drop j (take n l))
+  next-some : j < n → n ≤ length l → record { page = p; current = false; stamp = getD l j 0; ages = true } ≡ nextView p (drop j (take n l))
   next-some h m = rw (next-row l n j 0 h m)
 
   pub next-none : n ≤ j → record { page = p; current = true; stamp = 0; ages = true } ≡ nextView p (drop j (take n l))
@@ -56,30 +58,45 @@ module _ (st : Store) (p m s : ℕ) (ns : List ℕ) where
       (ap (anyB (ltb s)) (e ∙ ap (λ (v : View). page16 (λ k. viewed st v (objectAt (v .page) k))) q)
       ∙ any-page (λ k. viewed st (nextView p ns) (objectAt p k)) (ltb s))
 
-  pub due-not : s ≤ m → false ≡ dueSeen st p m s ns
+  due-not : s ≤ m → false ≡ dueSeen st p m s ns
   due-not l = rw (le-ltb m s l)
 
--- ---- a lull from a snapshot to the next
-module _ (l : Lull) (newest : ℕ) (known : List ℕ) (n i : ℕ) where
-  abbrev stamp : ℕ
-  stamp = getD known i 0
+-- ---- snapshots from low to high, by their ages as of the next one
+-- sixteen words for each of the next ones tell
+pub pages-tell : (disk dated : List ℕ) (pending past : List (List ℕ)) (h : Heads) (p m : ℕ) (l : List ℕ) (n low high : ℕ) → high < n → n ≤ length l
+    → ((i : ℕ) → low ≤ i → i < high → m < getD l i 0)
+    → {words₀ words : List ℕ} → Pages (pageAt disk dated pending past h p true) (take (high + 1 - (low + 1)) (drop (low + 1) l)) 0 words₀ words
+    → Telling (seenIn disk dated pending past h) p m l n low high words
+pages-tell disk dated pending past h p m l n low high e b f {words₀} {words} w i q r =
+    let c = high + 1 - (low + 1) in
+    let j = i - low in
+    let t : j < c = omega arith in
+    let k : j < length (take c (drop (low + 1) l)) = simp (length-take, length-drop) (omega arith) in
+    let z : low + 1 + j ≡ i + 1 = omega arith in
+    let g = getD-take c (drop (low + 1) l) j 0 t ∙ getD-drop (low + 1) l j 0 ∙ ap (λ (k : ℕ). getD l k 0) z in
+    let y : 16 * j ≡ 0 + 16 * j = omega arith in
+    due-seen (seenIn disk dated pending past h) p m (getD l i 0) (drop (i + 1) (take n l)) (f i q r) (next-some p l n (i + 1) (omega arith) b)
+    (ap (λ (k : ℕ). take 16 (drop k words)) y ∙ w .pages j k ∙ ap (pageAt disk dated pending past h p true) g)
 
-  abbrev behind : List ℕ
-  behind = drop (i + 1) (take n known)
+-- the sixteen words of the snapshot at i, looked through
+pub told-due : (st : Store) (p m : ℕ) (l : List ℕ) (n low high : ℕ) (ages : List ℕ) → Telling st p m l n low high ages → (i : ℕ) → low ≤ i → i < high
+    → {r : Bool} → r ≡ anyB (ltb (getD l i 0)) (take (16 * (i - low) + 16 - 16 * (i - low)) (drop (16 * (i - low)) ages)) → r ≡ dueSeen st p m (getD l i 0) (drop (i + 1) (take n l))
+told-due st p m l n low high ages t i h k e =
+    let a = 16 * (i - low) in
+    let q : a + 16 - a ≡ 16 = omega arith in
+    e ∙ ap (λ c. anyB (ltb (getD l i 0)) (take c (drop a ages))) q ∙ t i h k
 
-  pub quiet-last : n ≤ i + 1 → false ≡ quietB l newest stamp behind
-  quiet-last h = rw (drop-end n known (i + 1) h)
+-- none, or those up to high
+module _ (st : Store) (p m : ℕ) (known : List ℕ) (low high : ℕ) where
+  pub listed-none : high ≤ low → ListedTo st p m known low (max low high) []
+  listed-none h = let e : max low high ≡ low = omega arith in ap (λ (j : ℕ). duesSeen st p m (drop j known)) e
 
-  module _ (h : i + 1 < n) (b : n ≤ length known) where
-    pub quiet-early : stamp < l .from → false ≡ quietB l newest stamp behind
-    quiet-early e = rw (next-row known n (i + 1) 0 h b, lt-leb (l .from) stamp e)
+  pub listed-high : low < high → (found : List ℕ) → ListedTo st p m known low high found → ListedTo st p m known low (max low high) found
+  listed-high h found v =
+      let e : max low high ≡ high = omega arith in
+      ap (λ (j : ℕ). found ++ duesSeen st p m (drop j known)) e ∙ v
 
-    pub quiet-late : l .from ≤ stamp → l .until ≤ getD known (i + 1) 0 → false ≡ quietB l newest stamp behind
-    quiet-late e q = rw (next-row known n (i + 1) 0 h b, le-leb (l .from) stamp e, le-ltb (getD known (i + 1) 0) (l .until) q)
-
-    pub quiet-disk : l .from ≤ stamp → getD known (i + 1) 0 < l .until → leb newest stamp ≡ quietB l newest stamp behind
-    quiet-disk e q = rw (next-row known n (i + 1) 0 h b, le-leb (l .from) stamp e, lt-ltb (getD known (i + 1) 0) (l .until) q)
-
+-- ---- a snapshot from which on, up to the next known one, nothing of the page was written
 none-below : (n : ℕ) (f : ℕ → Bool) → ((k : ℕ) → k < n → f k ≡ false) → someBelow n f ≡ false
 none-below zero f h = refl
 none-below (suc n) f h = rw (h n (omega arith)) (none-below n f (λ k b. h k (omega arith)))
@@ -88,21 +105,64 @@ no-slot : (f : ℕ → Bool) → ((k : ℕ) → k < 16 → f k ≡ false) → so
 unfolding someSlot
 no-slot f h = none-below 16 f h
 
--- a snapshot before a lull is not due
-pub due-quiet : (disk dated : List ℕ) (pending past : List (List ℕ)) (h : Heads) (p : ℕ) → Lookable disk dated pending past h p
-    → {l : Lull} {newest : ℕ} → Watched dated pending past h p l newest → (m s : ℕ) (ns : List ℕ) → quietB l newest s ns ≡ true
-    → false ≡ dueSeen (seenIn disk dated pending past h) p m s ns
-due-quiet disk dated pending past h p a w m s [] e = clash (sym e)
-due-quiet disk dated pending past h p a {l} {newest} w m s (n ∷ ns) e =
-    let b = leb-true (l .from) s (both-left (leb (l .from) s) _ e) in
-    let r = both-right (leb (l .from) s) (both (ltb n (l .until)) (leb newest s)) e in
-    let u = ltb-true n (l .until) (both-left (ltb n (l .until)) (leb newest s) r) in
-    let d = leb-true newest s (both-right (ltb n (l .until)) (leb newest s) r) in
-    both-not (ltb m s) _
+-- at or behind the newest stamp up to a bound, with the next one no later than the bound
+due-quiet : (disk dated : List ℕ) (pending past : List (List ℕ)) (h : Heads) (p : ℕ) → Lookable disk dated pending past h p
+    → {newest bound : ℕ} → Still pending past h p (record { from = newest; until = bound + 1 }) → ((k : ℕ) → k < 16 → getD dated (objectAt p k) 0 ≤ newest)
+    → (m s n : ℕ) (ns : List ℕ) → newest ≤ s → n ≤ bound → dueSeen (seenIn disk dated pending past h) p m s (n ∷ ns) ≡ false
+due-quiet disk dated pending past h p a {newest} {bound} w d m s n ns b u =
+    let l : Lull = record { from = newest; until = bound + 1 } in
+    sym (both-not (ltb m s) _
     (no-slot (λ k. ltb s (viewed (seenIn disk dated pending past h) (nextView p (n ∷ ns)) (objectAt p k)))
-    (λ k q. le-ltb s _ (still-slot p n disk dated pending past h a l (w .still) s b u k q (omega (arith, w .settled k q)))))
+    (λ k q. le-ltb s _ (still-slot p n disk dated pending past h a l w s b (omega arith) k q (omega (arith, d k q))))))
 
--- ---- all of them: k are listed in D before snapshot i
+-- ---- a stretch of snapshots none of which is due
+module _ (st : Store) (p m : ℕ) (l : List ℕ) (n : ℕ) (b : n ≤ length l) where
+  skip-by : (c i : ℕ) → i + c ≤ n → ((j : ℕ) → i ≤ j → j < i + c → dueSeen st p m (getD l j 0) (drop (j + 1) (take n l)) ≡ false)
+      → duesSeen st p m (drop i (take n l)) ≡ duesSeen st p m (drop (i + c) (take n l))
+  skip-by zero i h f = let e : i ≡ i + 0 = omega arith in ap (λ (j : ℕ). duesSeen st p m (drop j (take n l))) e
+  skip-by (suc c) i h f =
+      let ih = skip-by c (i + 1) (omega arith) (λ j q r. f j (omega arith) (omega arith)) in
+      let e : i + 1 + c ≡ i + suc c = omega arith in
+      rw (next-row l n i 0 (omega arith) b, f i (omega arith) (omega arith)) (rw e at ih)
+
+  dues-skip : (i j : ℕ) → i ≤ j → j ≤ n → ((k : ℕ) → i ≤ k → k < j → dueSeen st p m (getD l k 0) (drop (k + 1) (take n l)) ≡ false)
+      → duesSeen st p m (drop i (take n l)) ≡ duesSeen st p m (drop j (take n l))
+  dues-skip i j h k f =
+      let e : i + (j - i) ≡ j = omega arith in
+      rw e at (skip-by (j - i) i (omega arith) (λ c q r. f c q (omega arith)))
+
+-- ---- all of them: none up to the mark
+dues-behind : (st : Store) (p m : ℕ) (l : List ℕ) (n j : ℕ) → n ≤ length l → j ≤ n → ((i : ℕ) → i < j → getD l i 0 ≤ m)
+    → duesSeen st p m (take n l) ≡ duesSeen st p m (drop j (take n l))
+dues-behind st p m l n j b h f =
+    dues-skip st p m l n b 0 j (omega arith) h (λ i q r. sym (due-not st p m (getD l i 0) (drop (i + 1) (take n l)) (f i r)))
+
+pub none-due : (st : Store) (p m : ℕ) (l : List ℕ) (n : ℕ) → n ≤ length l → ((i : ℕ) → i < n → getD l i 0 ≤ m) → [] ≡ duesSeen st p m (take n l)
+none-due st p m l n b f =
+    sym (dues-behind st p m l n n b (omega arith) f ∙ ap (duesSeen st p m) (drop-end n l n (omega arith)))
+
+-- none from the newest stamp to the last snapshot, the one at e
+module _ (disk dated : List ℕ) (pending past : List (List ℕ)) (h : Heads) (p : ℕ) (a : Lookable disk dated pending past h p) (l : List ℕ) (n e : ℕ) (q : e + 1 ≡ n) (b : n ≤ length l) (u : risingFrom 0 (take n l) ≡ true) where
+  pub dues-to-last : (m : ℕ) {newest low high : ℕ} → Still pending past h p (record { from = newest; until = getD l e 0 + 1 })
+      → ((k : ℕ) → k < 16 → getD dated (objectAt p k) 0 ≤ newest) → FirstFrom (take e l) (m + 1) low → FirstFrom (take e l) newest high
+      → (found : List ℕ) → ListedTo (seenIn disk dated pending past h) p m (take n l) low (max low high) found
+      → found ++ duesSeen (seenIn disk dated pending past h) p m (drop e (take n l)) ≡ duesSeen (seenIn disk dated pending past h) p m (take n l)
+  dues-to-last m {newest} {low} {high} w d f g found v =
+      let st = seenIn disk dated pending past h in
+      let c : e ≤ length l = omega arith in
+      let x = first-inside e l c f in
+      let y = first-inside e l c g in
+      ap (λ (r : List ℕ). found ++ r)
+      (sym
+      (dues-skip st p m l n b (max low high) e (omega arith) (omega arith)
+      (λ i r z.
+      let t : i + 1 < n = omega arith in
+      ap (dueSeen st p m (getD l i 0)) (next-row l n (i + 1) 0 t b)
+      ∙ due-quiet disk dated pending past h p a w d m (getD l i 0) (getD l (i + 1) 0) (drop (i + 1 + 1) (take n l)) (first-behind e l c g i (omega arith) z) (rising-at n l u b (i + 1) e (omega arith) (omega arith)))))
+      ∙ v
+      ∙ sym (dues-behind st p m l n low b (omega arith) (λ i r. omega (arith, first-before e l c f i r)))
+
+-- ---- k are listed in D before snapshot i
 module _ (st : Store) (p m : ℕ) (l : List ℕ) (n i : ℕ) (D : List ℕ) (k : ℕ) {W : List ℕ} (v : take k D ++ duesSeen st p m (drop i (take n l)) ≡ W) where
   module _ (h : i < n) (b : n ≤ length l) where
     pub list-yes : dueSeen st p m (getD l i 0) (drop (i + 1) (take n l)) ≡ true → k < length D

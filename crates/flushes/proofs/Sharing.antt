@@ -1,5 +1,5 @@
 -- What a page's share tells of all rows: those that stay, those that leave one, and that nothing is dropped where all stay.
-use Prim.Native.Nat.{ℕ, suc, _+_, _-_, _≤_}
+use Prim.Native.Nat.{ℕ, _+_, _-_, _≤_}
 use mathlib.Core.Path.{_≡_, refl, ap, sym, _∙_}
 use mathlib.Core.Bool.{Bool, true, false}
 use mathlib.Core.List.{List, [], _∷_}
@@ -8,10 +8,10 @@ use lib.ListN.{length, take}
 use lib.Seq.{take-all, length-take-le}
 use Rattle.model.specs.declared.Pending.{Pending}
 use Rattle.model.specs.declared.Past.{Past}
-use Rattle.model.specs.Lists.{both, kept}
+use Rattle.model.specs.Lists.{kept}
 use Rattle.model.specs.Changes.{ofPage}
 use Rattle.tables.specs.Rows.{pasts}
-use Rattle.tables.proofs.Cases.{by-test, clash}
+use Rattle.tables.proofs.Cases.{by-test}
 use Rattle.tables.proofs.Searches.{both-left}
 use Rattle.shares.specs.Shares.{rowOfPage, Numbered}
 use Rattle.shares.proofs.Numbers.{numbered-count}
@@ -78,3 +78,15 @@ module _ (disk dated snapshots : List ℕ) (rule : Rule) where
   leaving-start {d} {l} {n} {ns} {k} a =
       ap (kept (leavesUnder disk dated snapshots rule)) (take-all k (kept (ofPage (rule .page)) (take n l)) (omega (arith, numbered-count a)))
       ∙ kept-again (leavesUnder disk dated snapshots rule) (ofPage (rule .page)) leaver-there (take n l)
+
+  -- no more than there are entries of the page
+  pub leaving-few : {d : Pending} {l : List Pending} {n : ℕ} {ns : List ℕ} {k : ℕ} → Numbered d (ofPage (rule .page)) l n ns k
+      → length (kept (leavesUnder disk dated snapshots rule) (take n l)) ≤ k
+  leaving-few {d} {l} {n} {ns} {k} a =
+      let own = kept (ofPage (rule .page)) (take n l) in
+      omega (
+        arith,
+        numbered-count a,
+        ap length (kept-again (leavesUnder disk dated snapshots rule) (ofPage (rule .page)) leaver-there (take n l)),
+        kept-fewer (leavesUnder disk dated snapshots rule) own,
+      )

@@ -1,27 +1,26 @@
 -- What the functions below the judge and the writer of a flush compute from the lent tables.
-use Prim.Native.Nat.{ℕ, _+_, _≤_, _<_, max}
+use Prim.Native.Nat.{ℕ, _+_, _-_, _*_, _≤_, _<_, max}
 use mathlib.Core.Path.{_≡_}
-use mathlib.Core.Bool.{Bool, true, false, not}
-use mathlib.Core.List.{List, [], _∷_, map}
-use lib.ListN.{length, take, getD}
-use lib.Dec.{ltb, leb, eqb}
+use mathlib.Core.Bool.{Bool, true, not}
+use mathlib.Core.List.{List, [], _∷_, _++_, map}
+use lib.ListN.{length, take, drop, getD}
+use lib.Dec.{ltb, eqb}
 use Rattle.model.specs.declared.Pending.{Pending}
 use Rattle.model.specs.declared.Past.{Past}
 use Rattle.model.specs.declared.Answer.the-variants.{PastFull, ArchiveFull}
 use Rattle.model.specs.declared.Verdict.{Verdict}
 use Rattle.model.specs.declared.Verdict.the-variants.{Accepted, Idle, Refused}
 use Rattle.model.specs.Limits.{mostPast, mostCopies}
-use Rattle.model.specs.Lists.{both, either, pick, kept, emptyB}
+use Rattle.model.specs.Lists.{both, either, pick, anyB, kept, emptyB, risingFrom}
 use Rattle.model.specs.Store.{Store, Copy, page16, someSlot, objectAt, pageOf, beyondB, look}
 use Rattle.model.specs.Changes.{ofPage, stored}
+use Rattle.tables.specs.declared.CopyHead.{CopyHead}
 use Rattle.tables.specs.declared.Heads.{Heads}
-use Rattle.tables.specs.Rows.{pendings, pasts, copyHeads, copiesOf}
+use Rattle.tables.specs.Rows.{pendings, pasts}
 use Rattle.tables.specs.Contents.{contents}
 use Rattle.tables.specs.Lookups.{wantedB}
 use Rattle.views.specs.declared.View.{View}
 use Rattle.views.specs.Views.{viewed}
-use Rattle.shares.specs.declared.Lull.{Lull}
-use Rattle.shares.specs.Lulls.{Still}
 use Rattle.flushes.specs.declared.Rule.{Rule}
 
 -- what a look at a page needs of the store
@@ -40,15 +39,14 @@ abbrev pub duesSeen : Store → ℕ → ℕ → List ℕ → List ℕ
 duesSeen st p m [] = []
 duesSeen st p m (s ∷ ns) = pick (dueSeen st p m s ns) (s ∷ duesSeen st p m ns) (duesSeen st p m ns)
 
--- from a snapshot to the next known one, the first of those behind it, is a lull, and nothing on disk is newer
-abbrev pub quietB : Lull → ℕ → ℕ → List ℕ → Bool
-quietB l newest s [] = false
-quietB l newest s (n ∷ ns) = both (leb (l .from) s) (both (ltb n (l .until)) (leb newest s))
+-- for each of the snapshots from low to high there are sixteen words, which tell whether it is due, of the n that are known
+abbrev pub Telling : Store → ℕ → ℕ → List ℕ → ℕ → ℕ → ℕ → List ℕ → Type 0
+Telling st p m snapshots n low high ages =
+    (i : ℕ) → low ≤ i → i < high → anyB (ltb (getD snapshots i 0)) (take 16 (drop (16 * (i - low)) ages)) ≡ dueSeen st p m (getD snapshots i 0) (drop (i + 1) (take n snapshots))
 
--- a lull of the page, and the newest of its stamps on disk
-pub record Watched (dated : List ℕ) (pending past : List (List ℕ)) (h : Heads) (page : ℕ) (l : Lull) (newest : ℕ) : Type 0 where
-  pub still : Still pending past h page l
-  pub settled : (k : ℕ) → k < 16 → getD dated (objectAt page k) 0 ≤ newest
+-- those found are the due ones from low to high
+abbrev pub ListedTo : Store → ℕ → ℕ → List ℕ → ℕ → ℕ → List ℕ → Type 0
+ListedTo st p m known low high found = found ++ duesSeen st p m (drop high known) ≡ duesSeen st p m (drop low known)
 
 -- the largest of a list, 0 where it is empty
 abbrev pub top : List ℕ → ℕ
@@ -63,6 +61,7 @@ pub record Ruled (snapshots : List ℕ) (rule : Rule) : Type 0 where
   pub snapshot-words : length snapshots ≡ 64
   pub known-count : rule .known ≤ 64
   pub in-range : rule .page < 32
+  pub rising : risingFrom 0 (take (rule .known) snapshots) ≡ true
 
 -- a row of another page stays, and so does a live one
 abbrev pub staysAt : ℕ → ℕ → ℕ → List ℕ → Past → Bool
@@ -96,16 +95,13 @@ verdictBy entries dues copies rows =
     (pick (ltb mostPast rows) (Refused PastFull)
     Accepted))
 
--- ---- copies: the page as of a stamp that no copy serves
+-- ---- copies: a copy's head, and the page as of a stamp that no copy serves
+abbrev pub headOf : ℕ → ℕ → CopyHead
+headOf p s = record { page = p; stamp = s }
+
 abbrev pub copyIn : List ℕ → List ℕ → List (List ℕ) → List (List ℕ) → Heads → ℕ → ℕ → Copy
 copyIn disk dated pending past h p s =
     record { page = p; stamp = s; values = page16 (λ k. look (seenIn disk dated pending past h) (objectAt p k) s .value) }
-
--- the copies after are cs, in whole tables
-pub record Archived (copies : List (List ℕ)) (copied : List ℕ) (cs : List Copy) : Type 0 where
-  pub all : copiesOf (copyHeads copies) copied ≡ cs
-  pub copy-rows : length (copyHeads copies) ≡ 128
-  pub copied-words : length copied ≡ 2048
 
 -- ---- the page's entries go to disk, the others stay
 pub record Settled (page : ℕ) (es : List Pending) (disk₀ dated₀ disk dated : List ℕ) (pending : List (List ℕ)) (n : ℕ) : Type 0 where

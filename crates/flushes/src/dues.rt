@@ -1,6 +1,4 @@
 // Which known snapshots are due: those beyond the page's mark after which some object of the page was written, as of the next.
-use crate::Finding;
-use shares::Lull;
 use shares::Share;
 use tables::Disk;
 use tables::Heads;
@@ -9,13 +7,15 @@ use tables::PendingTable;
 use tables::Snapshots;
 use views::View;
 ghost use mathlib.Core.Path.{_≡_};
-ghost use Prim.Native.Nat.{_+_, _<_, _≤_, max};
-ghost use lib.ListN.{length, take, drop, getD};
+ghost use mathlib.Core.Bool.{true};
+ghost use Prim.Native.Nat.{ℕ, _+_, _-_, _*_, _<_, _≤_, max};
+ghost use lib.ListN.{length, take, getD};
 ghost use lib.Dec.{ltb};
-ghost use Rattle.model.specs.Lists.{anyB};
+ghost use Rattle.model.specs.Lists.{anyB, risingFrom};
+ghost use Rattle.model.specs.Store.{Store};
 ghost use Rattle.views.specs.Views.{Lookable};
 ghost use Rattle.shares.specs.Shares.{Shared};
-ghost use Rattle.flushes.specs.Parts.{seenIn, nextView, dueSeen, duesSeen, top, quietB, Watched};
+ghost use Rattle.flushes.specs.Parts.{seenIn, duesSeen, Telling, ListedTo, top};
 
 // Some word is beyond a stamp.
 fn some_beyond(words: &[u64], s: u64) -> bool
@@ -31,31 +31,34 @@ fn some_beyond(words: &[u64], s: u64) -> bool
     false
 }
 
-// The page's writing stamps as of the snapshot behind the one at i, or current where it is the last.
-fn next_view(snapshots: &Snapshots, known: usize, i: usize, page: u64) -> View
-    requires { ⌜ (i < known) × (known ≤ 64) × (length (now snapshots) ≡ 64) ⌝ }
-    ensures { λ r. ⌜ r ≡ nextView page (drop (i + 1) (take known (now (snapshots .entry)))) ⌝ }
+// Of the snapshots from low to high, those that their sixteen ages tell due.
+fn find_dues(
+    snapshots: &Snapshots,
+    low: usize,
+    high: usize,
+    ages: &[u64],
+    due: &mut [u64; 64],
+) -> usize
+    requires { ⌜ (high ≤ 64) × (length (now snapshots) ≡ 64) × (length (now due) ≡ 64) × (16 * (high - low) ≤ length (now ages)) × (low ≤ high) ⌝ }
+    ensures { λ r. ⌜ (r ≤ high - low) × (length (now (due .exit)) ≡ 64) ⌝ }
+    ensures { λ r. ⌜ ((st : Store) (p m n : ℕ) → high ≤ n → n ≤ 64 → Telling st p m (now (snapshots .entry)) n low high (now (ages .entry)) → ListedTo st p m (take n (now (snapshots .entry))) low high (take r (now (due .exit)))) ⌝ }
 {
-    let next = i + 1;
-    if next < known {
-        let stamp = snapshots[next];
-        return View {
-            page,
-            current: false,
-            stamp,
-            ages: true,
-        };
+    let mut k: usize = 0;
+    let mut j = low;
+    while j < high {
+        let s = snapshots[j];
+        let at = 16 * (j - low);
+        j += 1;
+        if some_beyond(&ages[at..at + 16], s) {
+            due[k] = s;
+            k += 1;
+        }
     }
-    View {
-        page,
-        current: true,
-        stamp: 0,
-        ages: true,
-    }
+    k
 }
 
-// The snapshot at i is due.
-fn due_at(
+// Of the snapshots from low to high, which have known ones behind them, those that are due.
+fn list_between(
     disk: &Disk,
     dated: &Disk,
     pending: &PendingTable,
@@ -66,118 +69,41 @@ fn due_at(
     share: Share,
     row_numbers: &[u8; 256],
     entry_numbers: &[u8; 128],
-    marked: u64,
-    i: usize,
-) -> bool
+    low: usize,
+    high: usize,
+    due: &mut [u64; 64],
+) -> usize
     requires { ⌜ Lookable (now disk) (now dated) (now pending) (now past) h page ⌝ }
     requires { ⌜ Shared (now pending) (now past) h page share (now «row_numbers») (now «entry_numbers») ⌝ }
-    requires { ⌜ (i < h .snapshots) × (h .snapshots ≤ 64) × (length (now snapshots) ≡ 64) ⌝ }
-    ensures { λ r. ⌜ r ≡ dueSeen (seenIn (now (disk .entry)) (now (dated .entry)) (now (pending .entry)) (now (past .entry)) h) page marked (getD (now (snapshots .entry)) i 0) (drop (i + 1) (take (h .snapshots) (now (snapshots .entry)))) ⌝ }
+    requires { ⌜ (h .snapshots ≤ 64) × (length (now snapshots) ≡ 64) × (length (now due) ≡ 64) × (high < h .snapshots) × (risingFrom 0 (take (h .snapshots) (now snapshots)) ≡ true) ⌝ }
+    ensures { λ r. ⌜ (r ≤ high - low) × (length (now (due .exit)) ≡ 64) ⌝ }
+    ensures { λ r. ⌜ ((m : ℕ) → ((i : ℕ) → low ≤ i → i < high → m < getD (now (snapshots .entry)) i 0) → ListedTo (seenIn (now (disk .entry)) (now (dated .entry)) (now (pending .entry)) (now (past .entry)) h) page m (take (h .snapshots) (now (snapshots .entry))) low (max low high) (take r (now (due .exit)))) ⌝ }
 {
-    let s = snapshots[i];
-    if marked < s {
-        let v = next_view(snapshots, h.snapshots, i, page);
-        let mut ages = [0u64; 16];
-        shares::look::look_at(
-            disk,
-            dated,
-            pending,
-            past,
-            h,
-            share,
-            row_numbers,
-            entry_numbers,
-            v,
-            &mut ages,
-        );
-        return some_beyond(&ages, s);
+    if high <= low {
+        return 0;
     }
-    false
-}
-
-// From the snapshot at i to the one behind it is a lull, and nothing on disk is newer.
-fn quiet_at(snapshots: &Snapshots, known: usize, i: usize, lull: Lull, newest: u64) -> bool
-    requires { ⌜ (i < known) × (known ≤ 64) × (length (now snapshots) ≡ 64) ⌝ }
-    ensures { λ r. ⌜ r ≡ quietB lull newest (getD (now (snapshots .entry)) i 0) (drop (i + 1) (take known (now (snapshots .entry)))) ⌝ }
-{
-    let behind = i + 1;
-    if known <= behind {
-        return false;
-    }
-    let s = snapshots[i];
-    if s < lull.from {
-        return false;
-    }
-    if lull.until <= snapshots[behind] {
-        return false;
-    }
-    newest <= s
-}
-
-// Whether the snapshot at i is due, and a lull for those behind it. The page is looked at only where the lull does not tell.
-fn find_at(
-    disk: &Disk,
-    dated: &Disk,
-    pending: &PendingTable,
-    past: &PastTable,
-    snapshots: &Snapshots,
-    h: Heads,
-    page: u64,
-    share: Share,
-    row_numbers: &[u8; 256],
-    entry_numbers: &[u8; 128],
-    marked: u64,
-    i: usize,
-    lull: Lull,
-    newest: u64,
-) -> Finding
-    requires { ⌜ Lookable (now disk) (now dated) (now pending) (now past) h page ⌝ }
-    requires { ⌜ Shared (now pending) (now past) h page share (now «row_numbers») (now «entry_numbers») ⌝ }
-    requires { ⌜ (i < h .snapshots) × (h .snapshots ≤ 64) × (length (now snapshots) ≡ 64) ⌝ }
-    requires { ⌜ Watched (now dated) (now pending) (now past) h page lull newest ⌝ }
-    ensures { λ r. ⌜ r .due ≡ dueSeen (seenIn (now (disk .entry)) (now (dated .entry)) (now (pending .entry)) (now (past .entry)) h) page marked (getD (now (snapshots .entry)) i 0) (drop (i + 1) (take (h .snapshots) (now (snapshots .entry)))) ⌝ }
-    ensures { λ r. ⌜ Watched (now (dated .entry)) (now (pending .entry)) (now (past .entry)) h page (r .lull) newest ⌝ }
-{
-    let s = snapshots[i];
-    if s <= marked {
-        return Finding { due: false, lull };
-    }
-    if quiet_at(snapshots, h.snapshots, i, lull, newest) {
-        return Finding { due: false, lull };
-    }
-    if due_at(
+    let mut ages = [0u64; 1024];
+    let known = &snapshots[..];
+    shares::many::look_at_all(
         disk,
         dated,
         pending,
         past,
-        snapshots,
         h,
-        page,
         share,
         row_numbers,
         entry_numbers,
-        marked,
-        i,
-    ) {
-        return Finding { due: true, lull };
-    }
-    let next = shares::quiet::lull_after(
-        pending,
-        past,
-        h,
         page,
-        share,
-        row_numbers,
-        entry_numbers,
-        s,
+        true,
+        &known[low + 1..high + 1],
+        &mut ages,
+        0,
     );
-    Finding {
-        due: false,
-        lull: next,
-    }
+    find_dues(snapshots, low, high, &ages, due)
 }
 
-// Lists the due snapshots; the result is their count.
+// Lists the due snapshots; the result is their count. None up to the mark is due, and none at or behind the newest stamp that
+// wrote the page by the last snapshot, but perhaps this last one. The ages as of the next snapshot tell the others.
 pub fn list_dues(
     disk: &Disk,
     dated: &Disk,
@@ -194,37 +120,68 @@ pub fn list_dues(
 ) -> usize
     requires { ⌜ Lookable (now disk) (now dated) (now pending) (now past) h page ⌝ }
     requires { ⌜ Shared (now pending) (now past) h page share (now «row_numbers») (now «entry_numbers») ⌝ }
-    requires { ⌜ (h .snapshots ≤ 64) × (length (now snapshots) ≡ 64) × (length (now due) ≡ 64) ⌝ }
+    requires { ⌜ (h .snapshots ≤ 64) × (length (now snapshots) ≡ 64) × (length (now due) ≡ 64) × (risingFrom 0 (take (h .snapshots) (now snapshots)) ≡ true) ⌝ }
     ensures { λ r. ⌜ (take r (now (due .exit)) ≡ duesSeen (seenIn (now (disk .entry)) (now (dated .entry)) (now (pending .entry)) (now (past .entry)) h) page marked (take (h .snapshots) (now (snapshots .entry)))) × (r ≤ 64) × (length (now (due .exit)) ≡ 64) ⌝ }
 {
-    let newest = shares::quiet::newest_on_disk(dated, page);
-    let mut lull = shares::quiet::no_lull(pending, past, h, page);
-    let mut i: usize = 0;
-    let mut k: usize = 0;
-    while i < h.snapshots {
-        let found = find_at(
-            disk,
-            dated,
-            pending,
-            past,
-            snapshots,
-            h,
-            page,
-            share,
-            row_numbers,
-            entry_numbers,
-            marked,
-            i,
-            lull,
-            newest,
-        );
-        let s = snapshots[i];
-        i += 1;
-        lull = found.lull;
-        if found.due {
-            due[k] = s;
-            k += 1;
-        }
+    if h.snapshots == 0 {
+        return 0;
+    }
+    let known = &snapshots[..];
+    let end = h.snapshots - 1;
+    let last = known[end];
+    if last <= marked {
+        return 0;
+    }
+    let newest = shares::quiet::newest_up_to(
+        dated,
+        pending,
+        past,
+        h,
+        page,
+        share,
+        row_numbers,
+        entry_numbers,
+        last,
+    );
+    let low = shares::many::first_from(&known[..end], marked + 1);
+    let high = shares::many::first_from(&known[..end], newest);
+    let k = list_between(
+        disk,
+        dated,
+        pending,
+        past,
+        snapshots,
+        h,
+        page,
+        share,
+        row_numbers,
+        entry_numbers,
+        low,
+        high,
+        due,
+    );
+    let v = View {
+        page,
+        current: true,
+        stamp: 0,
+        ages: true,
+    };
+    let mut ages = [0u64; 16];
+    shares::look::look_at(
+        disk,
+        dated,
+        pending,
+        past,
+        h,
+        share,
+        row_numbers,
+        entry_numbers,
+        v,
+        &mut ages,
+    );
+    if some_beyond(&ages, last) {
+        due[k] = last;
+        return k + 1;
     }
     k
 }

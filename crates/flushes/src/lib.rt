@@ -6,7 +6,7 @@ mod rows;
 mod settle;
 
 use model::Verdict;
-use shares::Lull;
+use shares::Share;
 use tables::Copied;
 use tables::CopyTable;
 use tables::Disk;
@@ -21,13 +21,19 @@ ghost use lib.ListN.{length};
 ghost use Rattle.model.specs.Changes.{flushStore};
 ghost use Rattle.model.specs.Judgement.{judgeFlush};
 ghost use Rattle.tables.specs.Contents.{contents};
-ghost use Rattle.flushes.specs.Promises.{Ready, Listed, Room, Applied};
+ghost use Rattle.flushes.specs.Promises.{Ready, Planned, Room, Applied};
 
-// The verdict, and what the writer needs of the judge's work: how many snapshots are due, and the page's mark after the flush.
-pub struct Judged {
-    pub verdict: Verdict,
+// What the judge found and the writer needs: the page's share of the tables, how many snapshots are due, the page's mark after the flush, and how many past rows stay.
+pub struct Plan {
+    pub share: Share,
     pub dues: usize,
     pub mark: u64,
+    pub staying: usize,
+}
+
+pub struct Judged {
+    pub verdict: Verdict,
+    pub plan: Plan,
 }
 
 // How a page's past rows are judged: the page, its mark after the flush, the horizon, and how many snapshots are known.
@@ -38,13 +44,7 @@ pub struct Rule {
     pub known: usize,
 }
 
-// Whether a snapshot is due, and a lull that is known then.
-pub struct Finding {
-    pub due: bool,
-    pub lull: Lull,
-}
-
-// What the store says of the flush: nothing to do, Archive full, Past full, or accepted. The due snapshots are listed.
+// What the store says of the flush: nothing to do, Archive full, Past full, or accepted. The due snapshots are listed, and the page's rows and entries numbered.
 pub fn judge_flush(
     disk: &Disk,
     dated: &Disk,
@@ -55,16 +55,16 @@ pub fn judge_flush(
     h: Heads,
     page: u64,
     due: &mut [u64; 64],
+    row_numbers: &mut [u8; 256],
+    entry_numbers: &mut [u8; 128],
 ) -> Judged
     requires { ⌜ Ready (now disk) (now dated) (now pending) (now past) (now snapshots) (now copies) h page ⌝ }
-    requires { ⌜ length (now due) ≡ 64 ⌝ }
+    requires { ⌜ (length (now due) ≡ 64) × (length (now «row_numbers») ≡ 256) × (length (now «entry_numbers») ≡ 128) ⌝ }
     ensures { λ r. ⌜ ((copied : List ℕ) → r .verdict ≡ judgeFlush (contents (now (disk .entry)) (now (dated .entry)) (now (pending .entry)) (now (past .entry)) (now (snapshots .entry)) (now (copies .entry)) copied h) page) ⌝ }
-    ensures { λ r. ⌜ ((copied : List ℕ) → Listed (contents (now (disk .entry)) (now (dated .entry)) (now (pending .entry)) (now (past .entry)) (now (snapshots .entry)) (now (copies .entry)) copied h) page (now (due .exit)) (r .dues) (r .mark)) ⌝ }
+    ensures { λ r. ⌜ ((copied : List ℕ) → Planned (contents (now (disk .entry)) (now (dated .entry)) (now (pending .entry)) (now (past .entry)) (now (snapshots .entry)) (now (copies .entry)) copied h) (now (pending .entry)) (now (past .entry)) (now (snapshots .entry)) h page (now (due .exit)) (now («row_numbers» .exit)) (now («entry_numbers» .exit)) (r .plan)) ⌝ }
 {
     let marked = tables::lookups::mark_of(copies, h.copies, page);
-    let mut row_numbers = [0u8; 256];
-    let mut entry_numbers = [0u8; 128];
-    let share = shares::find_share(pending, past, h, page, &mut row_numbers, &mut entry_numbers);
+    let share = shares::find_share(pending, past, h, page, row_numbers, entry_numbers);
     let dues = dues::list_dues(
         disk,
         dated,
@@ -74,30 +74,39 @@ pub fn judge_flush(
         h,
         page,
         share,
-        &row_numbers,
-        &entry_numbers,
+        row_numbers,
+        entry_numbers,
         marked,
         due,
     );
     let mark = dues::highest(due, dues, marked);
+    let rule = Rule {
+        page,
+        mark,
+        horizon: h.horizon,
+        known: h.snapshots,
+    };
+    let staying = rows::count_staying(past, h.past, row_numbers, share.rows, snapshots, rule);
     let verdict = judge::verdict(
         disk,
         dated,
         pending,
-        past,
         snapshots,
         h,
-        page,
         share,
-        &row_numbers,
-        &entry_numbers,
+        entry_numbers,
         dues,
-        mark,
+        staying,
+        rule,
     );
     Judged {
         verdict,
-        dues,
-        mark,
+        plan: Plan {
+            share,
+            dues,
+            mark,
+            staying,
+        },
     }
 }
 
@@ -113,22 +122,20 @@ pub fn apply_flush(
     h: Heads,
     page: u64,
     due: &[u64; 64],
-    dues: usize,
-    mark: u64,
+    row_numbers: &[u8; 256],
+    entry_numbers: &[u8; 128],
+    plan: Plan,
 ) -> Heads
     requires { ⌜ Ready (now disk) (now dated) (now pending) (now past) (now snapshots) (now copies) h page ⌝ }
-    requires { ⌜ (length (now copied) ≡ 2048) × Listed (contents (now disk) (now dated) (now pending) (now past) (now snapshots) (now copies) (now copied) h) page (now due) dues mark × Room (flushStore (contents (now disk) (now dated) (now pending) (now past) (now snapshots) (now copies) (now copied) h) page) ⌝ }
+    requires { ⌜ (length (now copied) ≡ 2048) × Planned (contents (now disk) (now dated) (now pending) (now past) (now snapshots) (now copies) (now copied) h) (now pending) (now past) (now snapshots) h page (now due) (now «row_numbers») (now «entry_numbers») plan × Room (flushStore (contents (now disk) (now dated) (now pending) (now past) (now snapshots) (now copies) (now copied) h) page) ⌝ }
     ensures { λ r. ⌜ Applied (contents (now (disk .entry)) (now (dated .entry)) (now (pending .entry)) (now (past .entry)) (now (snapshots .entry)) (now (copies .entry)) (now (copied .entry)) h) page (now (disk .exit)) (now (dated .exit)) (now (pending .exit)) (now (past .exit)) (now (snapshots .entry)) (now (copies .exit)) (now (copied .exit)) r ⌝ }
 {
     let rule = Rule {
         page,
-        mark,
+        mark: plan.mark,
         horizon: h.horizon,
         known: h.snapshots,
     };
-    let mut row_numbers = [0u8; 256];
-    let mut entry_numbers = [0u8; 128];
-    let share = shares::find_share(pending, past, h, page, &mut row_numbers, &mut entry_numbers);
     archive::archive(
         disk,
         dated,
@@ -138,20 +145,20 @@ pub fn apply_flush(
         copied,
         h,
         page,
-        share,
-        &row_numbers,
-        &entry_numbers,
+        plan.share,
+        row_numbers,
+        entry_numbers,
         due,
-        dues,
+        plan.dues,
     );
-    let rest = rows::drop_rows(past, h.past, &row_numbers, share.rows, snapshots, rule);
+    let rest = rows::drop_rows(past, h.past, plan.staying, snapshots, rule);
     let rows = settle::bury(
         disk,
         dated,
         pending,
         h.pending,
-        &entry_numbers,
-        share.entries,
+        entry_numbers,
+        plan.share.entries,
         past,
         rest,
         snapshots,
@@ -162,7 +169,7 @@ pub fn apply_flush(
         pending: left,
         past: rows,
         snapshots: h.snapshots,
-        copies: h.copies + dues,
+        copies: h.copies + plan.dues,
         horizon: h.horizon,
         last: h.last,
     }

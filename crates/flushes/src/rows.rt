@@ -115,20 +115,19 @@ pub fn count_leaving(
     leaving
 }
 
-// Keeps the rows that stay; the result is their count. Where all stay nothing is moved.
+// Keeps the rows that stay, of which the count is known; the result is it. Where all stay nothing is moved.
 pub fn drop_rows(
     past: &mut PastTable,
     n: usize,
-    numbers: &[u8; 256],
-    k: usize,
+    staying: usize,
     snapshots: &Snapshots,
     rule: Rule,
 ) -> usize
-    requires { ⌜ Numbered (pastOf []) (rowOfPage (rule .page)) (pasts (now past)) n (now numbers) k ⌝ }
     requires { ⌜ (n ≤ 256) × (length (pasts (now past)) ≡ 256) × Ruled (now snapshots) rule ⌝ }
+    requires { ⌜ staying ≡ length (kept (staysUnder (now snapshots) rule) (take n (pasts (now past)))) ⌝ }
     ensures { λ r. ⌜ Holding (now (past .exit)) r (kept (staysUnder (now (snapshots .entry)) rule) (take n (pasts (now (past .entry))))) ⌝ }
 {
-    if count_staying(past, n, numbers, k, snapshots, rule) == n {
+    if staying == n {
         return n;
     }
     let mut marks = [0u64; 32];

@@ -29,6 +29,6 @@ module _ (f : ℕ → Bool) (n : ℕ) (l : List ℕ) (i : ℕ) (h : i < n) (k : 
 pub among-end : (f : ℕ → Bool) (n : ℕ) (l : List ℕ) (i : ℕ) → n ≤ i → kept f (drop i (take n l)) ≡ []
 among-end f n l i h = rw (drop-end n l i h)
 
--- a row taken from those ahead and written behind the k known
-pub written : (r : List ℕ) (k x : ℕ) (m : List ℕ) → k < length r → take (k + 1) (set r k x) ++ m ≡ take k r ++ (x ∷ m)
-written r k x m h = rw (add-one, take-suc-set r k x h, append-assoc)
+-- the first of the rows ahead, written behind the k known
+pub written : (r l : List ℕ) (k i : ℕ) → k < length r → i < length l → take (k + 1) (set r k (getD l i 0)) ++ drop (i + 1) l ≡ take k r ++ drop i l
+written r l k i h g = rw (add-one k, add-one i, take-suc-set r k (getD l i 0) h, drop-cons l i 0 g, append-assoc)

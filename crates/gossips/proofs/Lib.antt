@@ -1,3 +1,4 @@
+pub mod Rising
 pub mod Ahead
 pub mod Comparing
 pub mod Saying

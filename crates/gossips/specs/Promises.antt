@@ -5,11 +5,12 @@ use mathlib.Core.Bool.{true}
 use mathlib.Core.List.{List, _++_}
 use lib.ListN.{length, take, drop, getD}
 use lib.Dec.{ltb, leb}
-use Rattle.model.specs.Lists.{allB, kept}
+use Rattle.model.specs.Lists.{allB, kept, risingFrom}
+use Rattle.model.specs.Store.{liveB}
 use Rattle.model.specs.Judgement as judgement
 use Rattle.model.specs.Changes.{gossipStore}
 use Rattle.tables.specs.declared.Heads.{Heads}
-use Rattle.tables.specs.Rows.{pasts, copyHeads}
+use Rattle.tables.specs.Rows.{pasts, copyHeads, copiesOf}
 use Rattle.tables.specs.Contents.{contents, Counted}
 use Rattle.gossips.specs.declared.Compared.{Compared}
 use Rattle.gossips.specs.declared.Compared.the-variants.{Same, Differ}
@@ -31,6 +32,13 @@ pub record Added (snapshots snapshots′ : List ℕ) (n r horizon : ℕ) (stamps
   pub count : r ≡ n + length (kept (ltb horizon) stamps)
   pub words : length snapshots′ ≡ 64
 
+-- of the first n past values the r live ones are left, by the first m copies
+pub record Dropped (past past′ : List (List ℕ)) (n r : ℕ) (known : List ℕ) (copies : List (List ℕ)) (m horizon : ℕ) : Type 0 where
+  pub live : (words : List ℕ) → take r (pasts past′) ≡ kept (liveB horizon known (take m (copiesOf (copyHeads copies) words))) (take n (pasts past))
+  pub count : r ≤ n
+  pub past-rows : length (pasts past′) ≡ 256
+
+-- the stamps ascend, and so do the known snapshots with the new ones behind them
 pub record Ready (past : List (List ℕ)) (snapshots : List ℕ) (copies : List (List ℕ)) (h : Heads) (stamps : List ℕ) : Type 0 where
   pub past-rows : length (pasts past) ≡ 256
   pub snapshot-words : length snapshots ≡ 64
@@ -38,6 +46,8 @@ pub record Ready (past : List (List ℕ)) (snapshots : List ℕ) (copies : List 
   pub counted : Counted h
   pub pages-in : allB (λ c. ltb (c .page) 32) (take (h .copies) (copyHeads copies)) ≡ true
   pub room : h .snapshots + length (kept (ltb (h .horizon)) stamps) ≤ 64
+  pub stamps-rise : risingFrom 0 stamps ≡ true
+  pub rising : risingFrom 0 (take (h .snapshots) snapshots ++ kept (ltb (h .horizon)) stamps) ≡ true
 
 pub record Applied (past past′ : List (List ℕ)) (snapshots snapshots′ : List ℕ) (copies : List (List ℕ)) (h h′ : Heads) (curr : ℕ) (stamps : List ℕ) : Type 0 where
   pub contains : (disk dated : List ℕ) (pending : List (List ℕ)) (copied : List ℕ)

@@ -6,14 +6,16 @@ use tables::Heads;
 use tables::PastTable;
 use tables::Snapshots;
 ghost use mathlib.Core.Path.{_≡_};
+ghost use mathlib.Core.Bool.{true};
 ghost use mathlib.Core.List.{List};
 ghost use Prim.Native.Nat.{ℕ, _+_, _≤_, min};
-ghost use lib.ListN.{length, take};
+ghost use lib.ListN.{length, take, drop};
 ghost use lib.Dec.{ltb, leb};
-ghost use Rattle.model.specs.Lists.{both, kept};
+ghost use Rattle.model.specs.Lists.{both, allB, kept, risingFrom};
 ghost use Rattle.model.specs.Judgement.{compared, judgeGossip};
+ghost use Rattle.tables.specs.Rows.{pasts, copyHeads};
 ghost use Rattle.tables.specs.Contents.{contents};
-ghost use Rattle.gossips.specs.Promises.{comparedAs, Skipped, Added, Ready, Applied};
+ghost use Rattle.gossips.specs.Promises.{comparedAs, Skipped, Added, Dropped, Ready, Applied};
 
 // How a message's stamps stand against the known snapshots.
 pub enum Compared {
@@ -35,24 +37,22 @@ fn spoken(s: u64, prev: u64, upto: u64) -> bool
     if prev < s { s <= upto } else { false }
 }
 
-// The index from i on of the first stamp up to a bound, or the length.
+// The index from i on of the first stamp up to a bound, or the length: behind a stamp beyond the bound all are.
 fn skip(stamps: &[u64], upto: u64, i: usize) -> usize
-    requires { ⌜ i ≤ length (now stamps) ⌝ }
+    requires { ⌜ (i ≤ length (now stamps)) × (risingFrom 0 (now stamps) ≡ true) ⌝ }
     ensures { λ r. ⌜ Skipped (now (stamps .entry)) upto i r ⌝ }
 {
-    let mut k = i;
-    while k < stamps.len() {
-        if stamps[k] <= upto {
-            return k;
+    if i < stamps.len() {
+        if stamps[i] <= upto {
+            return i;
         }
-        k += 1;
     }
-    k
+    stamps.len()
 }
 
 // The message's stamps up to a bound against the known ones beyond prev up to there.
 fn compare(snapshots: &Snapshots, known: usize, prev: u64, upto: u64, stamps: &[u64]) -> Compared
-    requires { ⌜ (known ≤ 64) × (length (now snapshots) ≡ 64) ⌝ }
+    requires { ⌜ (known ≤ 64) × (length (now snapshots) ≡ 64) × (risingFrom 0 (now stamps) ≡ true) ⌝ }
     ensures { λ r. ⌜ r ≡ comparedAs (compared (kept (λ s. leb s upto) (now (stamps .entry))) (kept (λ s. both (ltb prev s) (leb s upto)) (take known (now (snapshots .entry))))) ⌝ }
 {
     let mut i: usize = 0;
@@ -79,20 +79,19 @@ fn compare(snapshots: &Snapshots, known: usize, prev: u64, upto: u64, stamps: &[
     Compared::Same
 }
 
-// How many stamps lie beyond the horizon.
-fn count_beyond(stamps: &[u64], horizon: u64) -> usize
-    ensures { λ r. ⌜ r ≡ length (kept (ltb horizon) (now (stamps .entry))) ⌝ }
+// How many of the stamps, which ascend, lie up to the horizon.
+fn count_known(stamps: &[u64], horizon: u64) -> usize
+    requires { ⌜ risingFrom 0 (now stamps) ≡ true ⌝ }
+    ensures { λ r. ⌜ (kept (ltb horizon) (now (stamps .entry)) ≡ drop r (now (stamps .entry))) × (r ≤ length (now (stamps .entry))) ⌝ }
 {
-    let mut n: usize = 0;
     let mut i: usize = 0;
     while i < stamps.len() {
-        let s = stamps[i];
-        i += 1;
-        if horizon < s {
-            n += 1;
+        if horizon < stamps[i] {
+            return i;
         }
+        i += 1;
     }
-    n
+    i
 }
 
 // What the store says of the message: Gap, Conflict, nothing new, Snapshots full, or accepted.
@@ -103,7 +102,7 @@ pub fn judge_gossip(
     curr: u64,
     stamps: &[u64],
 ) -> Verdict
-    requires { ⌜ (length (now snapshots) ≡ 64) × (h .snapshots ≤ 64) × (length (now stamps) ≤ 16) ⌝ }
+    requires { ⌜ (length (now snapshots) ≡ 64) × (h .snapshots ≤ 64) × (length (now stamps) ≤ 16) × (risingFrom prev (now stamps) ≡ true) ⌝ }
     ensures { λ r. ⌜ ((disk dated : List ℕ) (pending past copies : List (List ℕ)) (copied : List ℕ) → r ≡ judgeGossip (contents disk dated pending past (now (snapshots .entry)) copies copied h) prev curr (now (stamps .entry))) ⌝ }
 {
     if h.horizon < prev {
@@ -116,7 +115,7 @@ pub fn judge_gossip(
             if curr <= h.horizon {
                 return Verdict::Idle;
             }
-            if 64 - h.snapshots < count_beyond(stamps, h.horizon) {
+            if 64 - h.snapshots < stamps.len() - count_known(stamps, h.horizon) {
                 return Verdict::Refused(Answer::SnapshotsFull);
             }
             Verdict::Accepted
@@ -126,20 +125,38 @@ pub fn judge_gossip(
 
 // Writes the stamps beyond the horizon behind the first n snapshots; the result is the new count.
 fn add_known(snapshots: &mut Snapshots, n: usize, horizon: u64, stamps: &[u64]) -> usize
-    requires { ⌜ (length (now snapshots) ≡ 64) × (n + length (kept (ltb horizon) (now stamps)) ≤ 64) ⌝ }
+    requires { ⌜ (length (now snapshots) ≡ 64) × (n + length (kept (ltb horizon) (now stamps)) ≤ 64) × (risingFrom 0 (now stamps) ≡ true) ⌝ }
     ensures { λ r. ⌜ Added (now (snapshots .entry)) (now (snapshots .exit)) n r horizon (now (stamps .entry)) ⌝ }
 {
     let mut k = n;
-    let mut i: usize = 0;
+    let mut i = count_known(stamps, horizon);
     while i < stamps.len() {
-        let stamp = stamps[i];
+        snapshots[k] = stamps[i];
+        k += 1;
         i += 1;
-        if horizon < stamp {
-            snapshots[k] = stamp;
-            k += 1;
-        }
     }
     k
+}
+
+// Dead past values go, those of every page; the result is the count of the others.
+fn drop_rows(
+    past: &mut PastTable,
+    n: usize,
+    snapshots: &Snapshots,
+    known: usize,
+    copies: &CopyTable,
+    m: usize,
+    horizon: u64,
+) -> usize
+    requires { ⌜ (n ≤ 256) × (length (pasts (now past)) ≡ 256) × (known ≤ 64) × (length (now snapshots) ≡ 64) × (m ≤ 128) × (length (copyHeads (now copies)) ≡ 128) × (allB (λ c. ltb (c .page) 32) (take m (copyHeads (now copies))) ≡ true) × (risingFrom 0 (take known (now snapshots)) ≡ true) ⌝ }
+    ensures { λ r. ⌜ Dropped (now (past .entry)) (now (past .exit)) n r (take known (now (snapshots .entry))) (now (copies .entry)) m horizon ⌝ }
+{
+    if n == 0 {
+        return 0;
+    }
+    let mut marks = [0u64; 32];
+    tables::lookups::marks_of(copies, m, &mut marks);
+    tables::dropping::drop_dead(past, n, 32, horizon, snapshots, known, &marks)
 }
 
 // Stamps beyond the horizon become known, the horizon moves, and dead past values go.
@@ -155,9 +172,7 @@ pub fn apply_gossip(
     ensures { λ r. ⌜ Applied (now (past .entry)) (now (past .exit)) (now (snapshots .entry)) (now (snapshots .exit)) (now (copies .entry)) h r curr (now (stamps .entry)) ⌝ }
 {
     let known = add_known(snapshots, h.snapshots, h.horizon, stamps);
-    let mut marks = [0u64; 32];
-    tables::lookups::marks_of(copies, h.copies, &mut marks);
-    let rows = tables::dropping::drop_dead(past, h.past, 32, curr, snapshots, known, &marks);
+    let rows = drop_rows(past, h.past, snapshots, known, copies, h.copies, curr);
     Heads {
         pending: h.pending,
         past: rows,

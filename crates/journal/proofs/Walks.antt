@@ -6,6 +6,7 @@ use mathlib.Core.List.{List, [], _∷_, _++_}
 use native.Mathlib.Omega.{arith}
 use lib.ListN.{length, take, drop, getD, replicate, length-append, length-drop, length-take, drop-of-length-le}
 use lib.Seq.{length-take-le, take-at, drop-drop, getD-drop}
+use lib.Dec.{ltb}
 use borrow.Author.Tests.{lt-ltb, le-ltb, lt-leb, eq-eqb, ne-eqb}
 use Rattle.model.specs.Lists.{both, emptyB, twiceB}
 use Rattle.model.specs.Bytes.{column, fromBe}
@@ -24,6 +25,10 @@ use Rattle.journal.specs.declared.walk.Step.the-variants.{End, Short, Ma
 both-false : (b : Bool) → both b false ≡ false
 both-false true = refl
 both-false false = refl
+
+both-true : (b : Bool) → both b true ≡ b
+both-true true = refl
+both-true false = refl
 
 -- ---- a column read into the front of an array
 pub column-length : (w stride n : ℕ) (b : List ℕ) → length (column w stride n b) ≡ n
@@ -88,6 +93,11 @@ objectsIn b = column 2 10 (getD b 8 0) (drop 9 b)
 abbrev pub fineB : List ℕ → Bool
 fineB os = both (objectsShaped os) (not (twiceB os))
 
+-- one object is fine where it is the store's
+pub one-fine : {n x : ℕ} (b : List ℕ) → n ≡ 1 → x ≡ fromBe (take 2 b) → ltb x 512 ≡ fineB (column 2 10 n b)
+unfolding objectsShaped
+one-fine b e h = let o = ltb (fromBe (take 2 b)) 512 in rw (e, h) (sym (both-true (both o true) ∙ both-true o))
+
 module _ (b : List ℕ) where
   same-length : length (objectsIn b) ≡ length (column 8 10 (getD b 8 0) (drop 11 b))
   same-length = column-length 2 10 (getD b 8 0) (drop 9 b) ∙ sym (column-length 8 10 (getD b 8 0) (drop 11 b))
@@ -119,10 +129,6 @@ module _ (b : List ℕ) where
 -- ---- a gossip message's body
 abbrev pub stampsIn : List ℕ → List ℕ
 stampsIn b = column 8 8 (getD b 16 0) (drop 17 b)
-
-both-true : (b : Bool) → both b true ≡ b
-both-true true = refl
-both-true false = refl
 
 module _ (b : List ℕ) where
   gossip-count : length (stampsIn b) ≡ getD b 16 0

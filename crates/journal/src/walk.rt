@@ -49,6 +49,10 @@ fn objects_good(body: &[u8], count: usize) -> bool
     requires { ⌜ (9 + 10 * count ≡ length (now body)) × (count ≤ 16) ⌝ }
     ensures { λ r. ⌜ r ≡ both (objectsShaped (column 2 10 count (drop 9 (now (body .entry))))) (not (twiceB (column 2 10 count (drop 9 (now (body .entry)))))) ⌝ }
 {
+    // Most records have one write, and need no list.
+    if count == 1 {
+        return fields::get_be(body, 9, 2) < 512;
+    }
     let mut room = [0u64; 16];
     fields::get_column(body, 9, 10, 2, &mut room[..count]);
     let objects = &room[..count];
@@ -81,8 +85,8 @@ fn read_commit(body: &[u8]) -> Decoded
     if body.len() != 9 + 10 * count {
         return Decoded::Bad;
     }
+    let stamp = fields::get_be(body, 0, 8);
     if objects_good(body, count) {
-        let stamp = fields::get_be(body, 0, 8);
         return Decoded::Good(Record::Commit(CommitHead { stamp, count }));
     }
     Decoded::Bad

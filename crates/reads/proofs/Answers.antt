@@ -5,7 +5,7 @@ use mathlib.Core.Bool.{Bool, true, false}
 use mathlib.Core.List.{List}
 use lib.ListN.{length}
 use lib.Dec.{ltb}
-use borrow.Author.Tests.{ltb-true, eqb-true, lt-ltb, le-ltb, le-leb, lt-leb, eq-eqb, ne-eqb}
+use borrow.Author.Tests.{ltb-true, eqb-true, lt-ltb, le-ltb, le-leb, eq-eqb, ne-eqb}
 use Rattle.model.specs.declared.Answer.{Answer}
 use Rattle.model.specs.declared.Answer.the-variants.{Done, Damaged, Shape, Ahead, NoSnapshot}
 use Rattle.model.specs.Limits.{lastTick}
@@ -22,9 +22,8 @@ shaped-is p buffer e =
     (λ t. clash (sym (rw t at e)))
 
 -- ---- as of a time: where no test before the horizon's fails, it is the snapshots that answer
-pub record Ready (st : Store) (good : Bool) (p : ℕ) (buffer : List ℕ) : Type 0 where
+pub record Ready (st : Store) (p : ℕ) (buffer : List ℕ) : Type 0 where
   pub whole : damaged st ≡ false
-  pub asked : good ≡ true
   pub shaped : readShaped p buffer ≡ true
 
 module _ (st : Store) (good : Bool) (time p : ℕ) (buffer : List ℕ) where
@@ -36,34 +35,30 @@ module _ (st : Store) (good : Bool) (time p : ℕ) (buffer : List ℕ) where
   unfolding readAt snapshotAnswer
   read-bad d g = rw (d, g) (record { answered = refl; filled = refl })
 
-  pub read-misshaped : damaged st ≡ false → good ≡ true → readShaped p buffer ≡ false → Read (readAt st good time p buffer) Shape buffer
-  unfolding readAt snapshotAnswer
-  read-misshaped d g r = rw (d, g, r) (record { answered = refl; filled = refl })
+pub read-misshaped : (st : Store) (time p : ℕ) (buffer : List ℕ) → damaged st ≡ false → readShaped p buffer ≡ false → Read (readAt st true time p buffer) Shape buffer
+unfolding readAt snapshotAnswer
+read-misshaped st time p buffer d r = rw (d, r) (record { answered = refl; filled = refl })
 
-module _ {st : Store} {good : Bool} {p : ℕ} {buffer : List ℕ} (r : Ready st good p buffer) (time : ℕ) where
-  pub read-ahead : st .horizon < time → Read (readAt st good time p buffer) (Ahead (st .horizon)) buffer
+module _ {st : Store} {p : ℕ} {buffer : List ℕ} (r : Ready st p buffer) (time : ℕ) where
+  pub read-ahead : st .horizon < time → Read (readAt st true time p buffer) (Ahead (st .horizon)) buffer
   unfolding readAt snapshotAnswer
-  read-ahead h = rw (r .whole, r .asked, r .shaped, lt-ltb (st .horizon) time h) (record { answered = refl; filled = refl })
+  read-ahead h = rw (r .whole, r .shaped, lt-ltb (st .horizon) time h) (record { answered = refl; filled = refl })
 
   module _ (h : time ≤ st .horizon) {s : ℕ} (e : s ≡ largest time (st .snapshots)) where
-    pub read-none : s ≡ 0 → Read (readAt st good time p buffer) NoSnapshot buffer
+    pub read-none : s ≡ 0 → Read (readAt st true time p buffer) NoSnapshot buffer
     unfolding readAt snapshotAnswer
     read-none z =
-        rw (r .whole, r .asked, r .shaped, le-ltb (st .horizon) time h, ← e, eq-eqb s 0 z) (record { answered = refl; filled = refl })
+        rw (r .whole, r .shaped, le-ltb (st .horizon) time h, ← e, eq-eqb s 0 z) (record { answered = refl; filled = refl })
 
-    pub read-done : (s ≡ 0 → ⊥) → {left : List ℕ} → left ≡ pageAsOf st p s → Read (readAt st good time p buffer) (Done s) left
+    pub read-done : (s ≡ 0 → ⊥) → {left : List ℕ} → left ≡ pageAsOf st p s → Read (readAt st true time p buffer) (Done s) left
     unfolding readAt snapshotAnswer
     read-done z f =
-        rw (r .whole, r .asked, r .shaped, le-ltb (st .horizon) time h, ← e, ne-eqb s 0 z) (record { answered = refl; filled = f })
+        rw (r .whole, r .shaped, le-ltb (st .horizon) time h, ← e, ne-eqb s 0 z) (record { answered = refl; filled = f })
 
--- ---- at a clock tick: beyond the last, the time does not matter
-module _ (st : Store) (tick p : ℕ) (buffer : List ℕ) {a : Answer} {left : List ℕ} where
-  pub clock-in : tick ≤ lastTick → Read (readAt st true (256 * tick) p buffer) a left → Read (clockRead st tick p buffer) a left
-  clock-in h v = rw (le-leb tick lastTick h) v
-
-  pub clock-beyond : lastTick < tick → Read (readAt st false 0 p buffer) a left → Read (clockRead st tick p buffer) a left
-  unfolding readAt snapshotAnswer
-  clock-beyond h v = rw (lt-leb tick lastTick h) v
+-- ---- at a clock tick
+pub clock-in : (st : Store) (tick p : ℕ) (buffer : List ℕ) → tick ≤ lastTick
+    → {a : Answer} {left : List ℕ} → Read (readAt st true (256 * tick) p buffer) a left → Read (clockRead st tick p buffer) a left
+clock-in st tick p buffer h v = rw (le-leb tick lastTick h) v
 
 -- ---- as it is now
 module _ (st : Store) (p : ℕ) (buffer : List ℕ) where

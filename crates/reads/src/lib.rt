@@ -9,17 +9,18 @@ use tables::Heads;
 use tables::PastTable;
 use tables::PendingTable;
 use tables::Snapshots;
-use views::View;
 ghost use mathlib.Core.Path.{_≡_};
+ghost use mathlib.Core.Bool.{true};
 ghost use mathlib.Core.List.{List};
 ghost use Prim.Native.Nat.{ℕ, _≤_};
-ghost use lib.ListN.{length};
+ghost use lib.ListN.{length, take};
 ghost use Rattle.model.specs.Store.{pageAsOf};
 ghost use Rattle.model.specs.Reads as model;
 ghost use Rattle.model.specs.Reads.{tickOf};
 ghost use lib.IntN.{pos, _-ℤ_};
-ghost use Rattle.tables.specs.Rows.{copyHeads};
-ghost use Rattle.tables.specs.Contents.{contents};
+ghost use Rattle.tables.specs.Rows.{pendings, copyHeads};
+ghost use Rattle.tables.specs.Lookups.{Indexed};
+ghost use Rattle.tables.specs.Contents.{contents, Laid};
 ghost use Rattle.views.specs.Views.{Lookable};
 ghost use Rattle.reads.specs.Read.{Read};
 
@@ -29,34 +30,27 @@ pub struct Stood {
     pub figures: Figures,
 }
 
-// The page as of s: the serving copy's words, else what the tables show.
+// The page as of s: the serving copy's words, else what the tables show. As in views::look_at, any list may stand for the stamps.
 fn show_page(
     disk: &Disk,
-    dated: &Disk,
     pending: &PendingTable,
     past: &PastTable,
     copies: &CopyTable,
     copied: &Copied,
     h: Heads,
+    index: &[u8],
     page: u64,
     s: u64,
     buffer: &mut [u64],
 )
-    requires { ⌜ Lookable (now disk) (now dated) (now pending) (now past) h page ⌝ }
+    requires { ⌜ Lookable (now disk) (now disk) (now pending) (now past) h page ⌝ }
+    requires { ⌜ Indexed (now index) (take (h .pending) (pendings (now pending))) ⌝ }
     requires { ⌜ (h .copies ≤ 128) × (length (copyHeads (now copies)) ≡ 128) × (length (now copied) ≡ 2048) × (length (now buffer) ≡ 16) ⌝ }
-    ensures { λ _. ⌜ ((snapshots : List ℕ) → now (buffer .exit) ≡ pageAsOf (contents (now (disk .entry)) (now (dated .entry)) (now (pending .entry)) (now (past .entry)) snapshots (now (copies .entry)) (now (copied .entry)) h) page s) ⌝ }
+    ensures { λ _. ⌜ ((dated snapshots : List ℕ) → now (buffer .exit) ≡ pageAsOf (contents (now (disk .entry)) dated (now (pending .entry)) (now (past .entry)) snapshots (now (copies .entry)) (now (copied .entry)) h) page s) ⌝ }
 {
     match tables::lookups::serving(copies, h.copies, page, s) {
         Found::At(i) => views::sixteen(copied, 16 * i, buffer),
-        Found::Nothing => {
-            let v = View {
-                page,
-                current: false,
-                stamp: s,
-                ages: false,
-            };
-            views::look_at(disk, dated, pending, past, h, v, buffer)
-        }
+        Found::Nothing => views::look_at(disk, pending, past, h, index, page, false, s, buffer),
     }
 }
 
@@ -68,26 +62,22 @@ fn read_shaped(page: u64, buffer: &[u64]) -> bool
 
 fn read_at(
     disk: &Disk,
-    dated: &Disk,
     pending: &PendingTable,
     past: &PastTable,
     snapshots: &Snapshots,
     copies: &CopyTable,
     copied: &Copied,
     h: Heads,
-    good: bool,
     time: u64,
     page: u64,
     buffer: &mut [u64],
 ) -> Answer
-    ensures { λ r. ⌜ Read (model.readAt (contents (now (disk .entry)) (now (dated .entry)) (now (pending .entry)) (now (past .entry)) (now (snapshots .entry)) (now (copies .entry)) (now (copied .entry)) h) good time page (now (buffer .entry))) r (now (buffer .exit)) ⌝ }
+    requires { ⌜ Laid (now disk) (now disk) (now pending) (now past) (now snapshots) (now copies) (now copied) ⌝ }
+    ensures { λ r. ⌜ ((dated : List ℕ) → Read (model.readAt (contents (now (disk .entry)) dated (now (pending .entry)) (now (past .entry)) (now (snapshots .entry)) (now (copies .entry)) (now (copied .entry)) h) true time page (now (buffer .entry))) r (now (buffer .exit))) ⌝ }
 {
-    tables::laid(*disk, *dated, *pending, *past, *snapshots, *copies, *copied);
-    if damage::damaged(pending, past, snapshots, copies, h) {
+    let mut index = [128u8; 512];
+    if damage::damaged_or_indexed(pending, past, snapshots, copies, h, &mut index) {
         return Answer::Damaged;
-    }
-    if !good {
-        return Answer::Shape;
     }
     if !read_shaped(page, buffer) {
         return Answer::Shape;
@@ -101,12 +91,12 @@ fn read_at(
     }
     show_page(
         disk,
-        dated,
         pending,
         past,
         copies,
         copied,
         h,
+        &index,
         page,
         s,
         buffer,
@@ -130,16 +120,15 @@ pub fn snapshot_read(
 ) -> Answer
     ensures { λ r. ⌜ Read (model.snapshotRead (contents (now (disk .entry)) (now (dated .entry)) (now (pending .entry)) (now (past .entry)) (now (snapshots .entry)) (now (copies .entry)) (now (copied .entry)) h) time page (now (buffer .entry))) r (now (buffer .exit)) ⌝ }
 {
+    tables::laid(*disk, *dated, *pending, *past, *snapshots, *copies, *copied);
     read_at(
         disk,
-        dated,
         pending,
         past,
         snapshots,
         copies,
         copied,
         h,
-        true,
         time,
         page,
         buffer,
@@ -162,36 +151,25 @@ pub fn clock_read(
 ) -> Answer
     ensures { λ r. ⌜ Read (model.clockRead (contents (now (disk .entry)) (now (dated .entry)) (now (pending .entry)) (now (past .entry)) (now (snapshots .entry)) (now (copies .entry)) (now (copied .entry)) h) tick page (now (buffer .entry))) r (now (buffer .exit)) ⌝ }
 {
+    tables::laid(*disk, *dated, *pending, *past, *snapshots, *copies, *copied);
     if tick <= 72057594037927935 {
         return read_at(
             disk,
-            dated,
             pending,
             past,
             snapshots,
             copies,
             copied,
             h,
-            true,
             256 * tick,
             page,
             buffer,
         );
     }
-    read_at(
-        disk,
-        dated,
-        pending,
-        past,
-        snapshots,
-        copies,
-        copied,
-        h,
-        false,
-        0,
-        page,
-        buffer,
-    )
+    if damage::damaged(pending, past, snapshots, copies, h) {
+        return Answer::Damaged;
+    }
+    Answer::Shape
 }
 
 // The page as it is now.
@@ -210,19 +188,14 @@ pub fn current_read(
     ensures { λ r. ⌜ Read (model.currentRead (contents (now (disk .entry)) (now (dated .entry)) (now (pending .entry)) (now (past .entry)) (now (snapshots .entry)) (now (copies .entry)) (now (copied .entry)) h) page (now (buffer .entry))) r (now (buffer .exit)) ⌝ }
 {
     tables::laid(*disk, *dated, *pending, *past, *snapshots, *copies, *copied);
-    if damage::damaged(pending, past, snapshots, copies, h) {
+    let mut index = [128u8; 512];
+    if damage::damaged_or_indexed(pending, past, snapshots, copies, h, &mut index) {
         return Answer::Damaged;
     }
     if !read_shaped(page, buffer) {
         return Answer::Shape;
     }
-    let v = View {
-        page,
-        current: true,
-        stamp: 0,
-        ages: false,
-    };
-    views::look_at(disk, dated, pending, past, h, v, buffer);
+    views::look_at(disk, pending, past, h, &index, page, true, 0, buffer);
     Answer::Done(0)
 }
 
@@ -249,7 +222,8 @@ pub fn standing(
     ensures { λ r. ⌜ (r .answer ≡ model.standing (contents (now (disk .entry)) (now (dated .entry)) (now (pending .entry)) (now (past .entry)) (now (snapshots .entry)) (now (copies .entry)) (now (copied .entry)) h) .answer) × (r .figures ≡ model.standing (contents (now (disk .entry)) (now (dated .entry)) (now (pending .entry)) (now (past .entry)) (now (snapshots .entry)) (now (copies .entry)) (now (copied .entry)) h) .figures) ⌝ }
 {
     tables::laid(*disk, *dated, *pending, *past, *snapshots, *copies, *copied);
-    if damage::damaged(pending, past, snapshots, copies, h) {
+    let mut index = [128u8; 512];
+    if damage::damaged_or_indexed(pending, past, snapshots, copies, h, &mut index) {
         let none = Figures {
             pending: 0,
             past: 0,

@@ -9,7 +9,7 @@ use borrow.Author.Tests.{ltb-true, ltb-false, leb-true, eqb-true, not-true}
 use lib.ListN.{length, take, drop, getD, length-drop}
 use lib.Seq.{drop-drop, take-take}
 use lib.Dec.{ltb, leb, eqb}
-use Rattle.model.specs.Lists.{both, either, emptyB, twiceB}
+use Rattle.model.specs.Lists.{both, either, emptyB, allB, twiceB, risingFrom}
 use Rattle.model.specs.Bytes.{fromBe, column}
 use Rattle.model.specs.Changes.{Write, Change, commit, gossip, flush, objectsOf, paired}
 use Rattle.model.specs.Judgement.{wellFormed, objectsShaped, stampsShaped}
@@ -142,12 +142,17 @@ pub record CommitAt (j : List ℕ) (at t n : ℕ) (c : Change) : Type 0 where
   pub inside : at + (12 + 10 * n) ≤ length j
   pub short : n ≤ 16
   pub once : twiceB (column 2 10 n (drop (at + 12) j)) ≡ false
+  pub in-range : allB (λ o. ltb o 512) (column 2 10 n (drop (at + 12) j)) ≡ true
   pub is : c ≡ commit t (paired (column 2 10 n (drop (at + 12) j)) (column 8 10 n (drop (at + 14) j)))
 
 objects-short : (os : List ℕ) → objectsShaped os ≡ true → length os ≤ 16
 unfolding objectsShaped
 objects-short os h =
     leb-true _ _ (both-right (leb 1 (length os)) _ (both-left (both (leb 1 (length os)) (leb (length os) 16)) _ h))
+
+objects-in : (os : List ℕ) → objectsShaped os ≡ true → allB (λ o. ltb o 512) os ≡ true
+unfolding objectsShaped
+objects-in os h = both-right (both (leb 1 (length os)) (leb (length os) 16)) _ h
 
 commit-lies : (j : List ℕ) (at next t : ℕ) (ws : List Write) → Lies j at next (commit t ws) → CommitAt j at t (length ws) (commit t ws)
 commit-lies j at next t ws l =
@@ -164,12 +169,14 @@ commit-lies j at next t ws l =
     let q : vs ≡ column 8 10 n (drop (at + 14) j) =
     ap (λ (x : ℕ). column 8 10 x (drop 11 b)) (sym k) ∙ column-in 8 10 n 11 (10 + 10 * n - 1) j at (at + 14) (omega arith) (omega arith) in
     let f : objectsOf ws ≡ column 2 10 n (drop (at + 12) j) = ap objectsOf w ∙ paired-objects os vs same ∙ p in
-    let h = objects-short (objectsOf ws) (both-left (objectsShaped (objectsOf ws)) _ (l .formed)) in
+    let h = both-left (objectsShaped (objectsOf ws)) _ (l .formed) in
+    let short = objects-short (objectsOf ws) h in
     let i = l .inside in
     record {
       inside = omega arith;
       short = omega (arith, ap length f, column-length 2 10 n (drop (at + 12) j));
       once = sym (ap twiceB f) ∙ not-true (twiceB (objectsOf ws)) (both-right (objectsShaped (objectsOf ws)) _ (l .formed));
+      in-range = sym (ap (allB (λ o. ltb o 512)) f) ∙ objects-in (objectsOf ws) h;
       is = ap (commit t) (w ∙ (λ i. paired (p i) (q i)));
     }
 
@@ -184,12 +191,18 @@ commit-at j at next (flush p) l e = never (cc)
 pub record GossipAt (j : List ℕ) (at prev curr n : ℕ) (c : Change) : Type 0 where
   pub inside : at + (20 + 8 * n) ≤ length j
   pub short : n ≤ 16
+  pub rises : risingFrom prev (column 8 8 n (drop (at + 20) j)) ≡ true
   pub is : c ≡ gossip prev curr (column 8 8 n (drop (at + 20) j))
 
 stamps-short : (prev curr : ℕ) (stamps : List ℕ) → stampsShaped prev curr stamps ≡ true → length stamps ≤ 16
 unfolding stampsShaped
 stamps-short prev curr stamps h =
     leb-true _ _ (both-left (leb (length stamps) 16) _ (both-left (both (leb (length stamps) 16) (leb prev curr)) _ h))
+
+stamps-rise : (prev curr : ℕ) (stamps : List ℕ) → stampsShaped prev curr stamps ≡ true → risingFrom prev stamps ≡ true
+unfolding stampsShaped
+stamps-rise prev curr stamps h =
+    both-left (risingFrom prev stamps) _ (both-right (both (leb (length stamps) 16) (leb prev curr)) _ h)
 
 gossip-lies : (j : List ℕ) (at next prev curr : ℕ) (stamps : List ℕ) → Lies j at next (gossip prev curr stamps)
     → GossipAt j at prev curr (length stamps) (gossip prev curr stamps)
@@ -202,9 +215,11 @@ gossip-lies j at next prev curr stamps l =
     let p : column 8 8 m (drop 17 b) ≡ column 8 8 n (drop (at + 20) j) =
     ap (λ (x : ℕ). column 8 8 x (drop 17 b)) (sym k) ∙ column-in 8 8 n 17 (18 + 8 * n - 1) j at (at + 20) (omega arith) (omega arith) in
     let i = l .inside in
+    let h = both-left (stampsShaped prev curr stamps) _ (l .formed) in
     record {
       inside = omega arith;
-      short = stamps-short prev curr stamps (both-left (stampsShaped prev curr stamps) _ (l .formed));
+      short = stamps-short prev curr stamps h;
+      rises = sym (ap (risingFrom prev) (w ∙ p)) ∙ stamps-rise prev curr stamps h;
       is = ap (gossip prev curr) (w ∙ p);
     }
 

@@ -1,22 +1,28 @@
 -- A verdict, and what the writers leave, make the turn that the model makes.
-use Prim.Native.Nat.{ℕ}
+use Prim.Native.Nat.{ℕ, _≤_}
 use mathlib.Core.Path.{_≡_, refl, ap, sym, _∙_, subst}
 use mathlib.Core.Bool.{Bool, true, false}
 use mathlib.Core.List.{List, []}
 use native.Mathlib.Omega.{arith}
-use lib.ListN.{length}
+use lib.ListN.{length, take}
+use lib.Dec.{ltb}
 use Rattle.model.specs.declared.Verdict.{Verdict}
 use Rattle.model.specs.declared.Verdict.the-variants.{Accepted, Idle, Refused}
+use Rattle.model.specs.Lists.{allB, twiceB, risingFrom}
 use Rattle.model.specs.Store.{Store}
-use Rattle.model.specs.Changes.{Change, commit, gossip, flush, paired, after, commitStore, flushStore}
+use Rattle.model.specs.Changes.{Change, commit, gossip, flush, paired, after, commitStore, gossipStore, flushStore}
 use Rattle.model.specs.Judgement.{judge, judgeCommit, judgeGossip, judgeFlush}
 use Rattle.tables.specs.declared.Heads.{Heads}
+use Rattle.tables.specs.Rows.{pendingOf, pendings}
+use Rattle.tables.specs.Lookups.{Indexed}
 use Rattle.tables.specs.Contents.{contents}
 use Rattle.tables.proofs.Counts.{up-to-length}
+use Rattle.tables.proofs.Rising.{rises-low}
 use Rattle.commits.specs.Promises as commits
 use Rattle.commits.proofs.Judged as commit-judged
 use Rattle.gossips.specs.Promises as gossips
 use Rattle.gossips.proofs.Judged as gossip-judged
+use Rattle.gossips.proofs.Rising.{known-rises}
 use Rattle.flushes.specs.Promises as flushes
 use Rattle.flushes.proofs.Told as flush-judged
 use Rattle.history.proofs.Laws.{clash}
@@ -35,6 +41,21 @@ module _ (st : Store) (c : Change) {v : Verdict} (e : v ≡ judge st c) where
   turned-yes f g = record { says = sym f ∙ ap acceptedB e; contains = g }
 
 -- ---- a commit
+pub commit-ready : {pending past : List (List ℕ)} {snapshots : List ℕ} {copies : List (List ℕ)} {h : Heads} {os index : List ℕ}
+    → CommitReady pending past snapshots copies h → Indexed index (take (h .pending) (pendings pending))
+    → length os ≤ 16 → twiceB os ≡ false → allB (λ o. ltb o 512) os ≡ true → commits.Ready pending snapshots copies h os index
+commit-ready a x l o i = record {
+  pending-rows = a .pending-rows;
+  snapshot-words = a .snapshot-words;
+  copy-rows = a .copy-rows;
+  counted = a .counted;
+  rising = a .rising;
+  short = l;
+  once = o;
+  in-range = i;
+  indexed = x;
+}
+
 module _ {pending past : List (List ℕ)} {snapshots : List ℕ} {copies : List (List ℕ)} {h : Heads} (t : ℕ) (os vs : List ℕ) {v : Verdict}
     (a : CommitReady pending past snapshots copies h) (l : length vs ≡ length os)
     (e : (disk dated : List ℕ) (past : List (List ℕ)) (copied vs : List ℕ) → length vs ≡ length os → v ≡ judgeCommit (contents disk dated pending past snapshots copies copied h) t (paired os vs)) where
@@ -63,8 +84,8 @@ module _ {pending past : List (List ℕ)} {snapshots : List ℕ} {copies : List 
 module _ {past : List (List ℕ)} {snapshots : List ℕ} {copies : List (List ℕ)} {h : Heads} (prev curr : ℕ) (stamps : List ℕ) {v : Verdict}
     (a : GossipReady past snapshots copies h)
     (e : (disk dated : List ℕ) (pending past copies : List (List ℕ)) (copied : List ℕ) → v ≡ judgeGossip (contents disk dated pending past snapshots copies copied h) prev curr stamps) where
-  pub gossip-ready : acceptedB v ≡ true → gossips.Ready past snapshots copies h stamps
-  gossip-ready f = record {
+  pub gossip-ready : acceptedB v ≡ true → risingFrom prev stamps ≡ true → gossips.Ready past snapshots copies h stamps
+  gossip-ready f r = record {
     past-rows = a .past-rows;
     snapshot-words = a .snapshot-words;
     copy-rows = a .copy-rows;
@@ -74,6 +95,8 @@ module _ {past : List (List ℕ)} {snapshots : List ℕ} {copies : List (List �
         let n = up-to-length 0 (h .snapshots) snapshots in
         let r = gossip-judged.accepted-room (contents [] [] [] past snapshots copies [] h) prev curr stamps (sym (e [] [] [] past copies []) ∙ was-accepted v f) in
         omega arith;
+    stamps-rise = rises-low prev 0 stamps r (omega arith);
+    rising = known-rises (h .horizon) prev (take (h .snapshots) snapshots) stamps (a .rising) (a .known) r;
   }
 
   pub gossip-no : acceptedB v ≡ false → GossipTurned past past snapshots snapshots copies h h (gossip prev curr stamps) false
@@ -82,7 +105,13 @@ module _ {past : List (List ℕ)} {snapshots : List ℕ} {copies : List (List �
     past-rows = a .past-rows;
     snapshot-words = a .snapshot-words;
     counted = a .counted;
+    entries = refl;
   }
+
+  gossip-entries : {past′ : List (List ℕ)} {snapshots′ : List ℕ} {h′ : Heads} → gossips.Applied past past′ snapshots snapshots′ copies h h′ curr stamps → h′ .pending ≡ h .pending
+  unfolding gossipStore pendings
+  gossip-entries {h′ = h′} g =
+      sym (up-to-length (pendingOf []) (h′ .pending) []) ∙ ap (λ (st : Store). length (st .pending)) (g .contains [] [] [] []) ∙ up-to-length (pendingOf []) (h .pending) []
 
   pub gossip-yes : {past′ : List (List ℕ)} {snapshots′ : List ℕ} {h′ : Heads} → acceptedB v ≡ true → gossips.Applied past past′ snapshots snapshots′ copies h h′ curr stamps
       → GossipTurned past past′ snapshots snapshots′ copies h h′ (gossip prev curr stamps) true
@@ -91,6 +120,7 @@ module _ {past : List (List ℕ)} {snapshots : List ℕ} {copies : List (List �
     past-rows = g .past-rows;
     snapshot-words = g .snapshot-words;
     counted = g .counted;
+    entries = gossip-entries g;
   }
 
 -- ---- a flush

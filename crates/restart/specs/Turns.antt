@@ -4,10 +4,10 @@ use mathlib.Core.Path.{_≡_}
 use mathlib.Core.Bool.{Bool, true, false}
 use mathlib.Core.List.{List}
 use lib.ListN.{length, take, replicate}
-use lib.Dec.{ltb}
+use lib.Dec.{ltb, leb}
 use Rattle.model.specs.declared.Verdict.{Verdict}
 use Rattle.model.specs.declared.Verdict.the-variants.{Accepted, Idle, Refused}
-use Rattle.model.specs.Lists.{pick, allB}
+use Rattle.model.specs.Lists.{pick, allB, risingFrom}
 use Rattle.model.specs.Store.{Store}
 use Rattle.model.specs.Changes.{Change, flush, after}
 use Rattle.model.specs.Judgement.{judge}
@@ -52,6 +52,7 @@ pub record CommitReady (pending past : List (List ℕ)) (snapshots : List ℕ) (
   pub snapshot-words : length snapshots ≡ 64
   pub copy-rows : length (copyHeads copies) ≡ 128
   pub counted : Counted h
+  pub rising : risingFrom 0 (take (h .snapshots) snapshots) ≡ true
 
 -- and of those of a gossip message
 pub record GossipReady (past : List (List ℕ)) (snapshots : List ℕ) (copies : List (List ℕ)) (h : Heads) : Type 0 where
@@ -60,6 +61,8 @@ pub record GossipReady (past : List (List ℕ)) (snapshots : List ℕ) (copies :
   pub copy-rows : length (copyHeads copies) ≡ 128
   pub counted : Counted h
   pub pages-in : allB (λ c. ltb (c .page) 32) (take (h .copies) (copyHeads copies)) ≡ true
+  pub rising : risingFrom 0 (take (h .snapshots) snapshots) ≡ true
+  pub known : allB (λ s. leb s (h .horizon)) (take (h .snapshots) snapshots) ≡ true
 
 abbrev pub acceptedB : Verdict → Bool
 acceptedB Accepted = true
@@ -85,6 +88,7 @@ pub record GossipTurned (past past′ : List (List ℕ)) (snapshots snapshots′
   pub past-rows : length (pasts past′) ≡ 256
   pub snapshot-words : length snapshots′ ≡ 64
   pub counted : Counted h′
+  pub entries : h′ .pending ≡ h .pending
 
 -- the same of all tables
 pub record Carried (st : Store) (c : Change) (accepted : Bool) (values stamps : List ℕ) (pending past : List (List ℕ)) (snapshots : List ℕ) (copies : List (List ℕ)) (copied : List ℕ) (h : Heads) : Type 0 where

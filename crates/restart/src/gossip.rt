@@ -6,8 +6,11 @@ use tables::CopyTable;
 use tables::Heads;
 use tables::PastTable;
 use tables::Snapshots;
+ghost use mathlib.Core.Path.{_≡_};
+ghost use mathlib.Core.Bool.{true};
 ghost use Prim.Native.Nat.{_≤_};
 ghost use lib.ListN.{length};
+ghost use Rattle.model.specs.Lists.{risingFrom};
 ghost use Rattle.model.specs.Changes as changes;
 ghost use Rattle.journal.specs.declared.walk.Record.the-variants as records;
 ghost use Rattle.restart.specs.Turns.{GossipReady, GossipTurned, Stands, changeAt};
@@ -22,7 +25,7 @@ fn carry(
     stamps: &[u64],
 ) -> Replayed
     requires { ⌜ GossipReady (now past) (now snapshots) (now copies) h ⌝ }
-    requires { ⌜ length (now stamps) ≤ 16 ⌝ }
+    requires { ⌜ (length (now stamps) ≤ 16) × (risingFrom prev (now stamps) ≡ true) ⌝ }
     ensures { λ r. ⌜ GossipTurned (now (past .entry)) (now (past .exit)) (now (snapshots .entry)) (now (snapshots .exit)) (now (copies .entry)) h (r .heads) (changes.gossip prev curr (now (stamps .entry))) (r .accepted) ⌝ }
 {
     let verdict = gossips::judge_gossip(snapshots, h, prev, curr, stamps);

@@ -3,6 +3,7 @@ mod commit;
 mod empty;
 mod flush;
 mod gossip;
+mod indexing;
 mod replay;
 mod walk;
 

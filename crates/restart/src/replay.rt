@@ -5,10 +5,14 @@ use tables::Copied;
 use tables::CopyTable;
 use tables::Disk;
 use tables::Heads;
+use tables::Index;
 use tables::PastTable;
 use tables::PendingTable;
 use tables::Snapshots;
 ghost use mathlib.Core.Path.{_≡_};
+ghost use lib.ListN.{length, take};
+ghost use Rattle.tables.specs.Rows.{pendings};
+ghost use Rattle.tables.specs.Lookups.{Indexed};
 ghost use Rattle.tables.specs.Contents.{contents};
 ghost use Rattle.restart.specs.Turns.{acceptedB, Held, Carried, Stands, changeAt};
 
@@ -39,17 +43,36 @@ pub fn replay(
     copies: &mut CopyTable,
     copied: &mut Copied,
     h: Heads,
+    index: &mut Index,
     journal: &[u8],
     at: usize,
     told: Record,
+    objects: &mut [u64],
+    values: &mut [u64],
 ) -> Replayed
     requires { ⌜ Held (now disk) (now dated) (now pending) (now past) (now snapshots) (now copies) (now copied) h ⌝ }
+    requires { ⌜ Indexed (now index) (take (h .pending) (pendings (now pending))) ⌝ }
     requires { ⌜ Stands (now journal) at told ⌝ }
+    requires { ⌜ (length (now objects) ≡ 16) × (length (now values) ≡ 16) ⌝ }
     ensures { λ r. ⌜ Carried (contents (now (disk .entry)) (now (dated .entry)) (now (pending .entry)) (now (past .entry)) (now (snapshots .entry)) (now (copies .entry)) (now (copied .entry)) h) (changeAt (now (journal .entry)) at) (r .accepted) (now (disk .exit)) (now (dated .exit)) (now (pending .exit)) (now (past .exit)) (now (snapshots .exit)) (now (copies .exit)) (now (copied .exit)) (r .heads) ⌝ }
+    ensures { λ r. ⌜ Indexed (now (index .exit)) (take (r .heads .pending) (pendings (now (pending .exit)))) ⌝ }
+    ensures { λ _. ⌜ (length (now (objects .exit)) ≡ 16) × (length (now (values .exit)) ≡ 16) ⌝ }
 {
     match told {
         Record::Commit(head) => {
-            crate::commit::replay(pending, past, snapshots, copies, h, journal, at, head)
+            crate::commit::replay(
+                pending,
+                past,
+                snapshots,
+                copies,
+                h,
+                index,
+                journal,
+                at,
+                head,
+                objects,
+                values,
+            )
         }
         Record::Gossip(head) => {
             crate::gossip::replay(past, snapshots, copies, h, journal, at, head)
@@ -63,6 +86,7 @@ pub fn replay(
             copies,
             copied,
             h,
+            index,
             head.page,
         ),
     }

@@ -29,6 +29,7 @@ fn done(heads: Heads, at: usize) -> Started
     }
 }
 
+// The index of the entries and the room for a commit's writes are kept from record to record.
 // A record that isn't whole ends the walk; a malformed one and one that the store doesn't accept refuse the journal.
 pub fn walk(
     disk: &mut Disk,
@@ -44,6 +45,9 @@ pub fn walk(
     ensures { λ r. ⌜ Rebuilt (restart.walk (length (now (journal .entry))) (now (journal .entry)) 1 model.fresh) (r .answer) (contents (now (disk .exit)) (now (dated .exit)) (now (pending .exit)) (now (past .exit)) (now (snapshots .exit)) (now (copies .exit)) (now (copied .exit)) (r .heads)) (r .place .at) ⌝ }
 {
     let mut heads = crate::empty::wipe(disk, dated);
+    let mut index = [128u8; 512];
+    let mut objects = [0u64; 16];
+    let mut values = [0u64; 16];
     let mut at: usize = 1;
     loop {
         match journal::reader::read_at(journal, Place { at }) {
@@ -62,9 +66,12 @@ pub fn walk(
                     copies,
                     copied,
                     heads,
+                    &mut index,
                     journal,
                     at,
                     record,
+                    &mut objects,
+                    &mut values,
                 );
                 if !r.accepted {
                     return crate::empty::start(disk, dated, Answer::Contradiction(at as u64));

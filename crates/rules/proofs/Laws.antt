@@ -67,8 +67,8 @@ bounded-cons lo hi s l e =
     (λ t. rw (t, lt-ltb lo s e, none-both, none-both))
 
 module _ (lo hi : ℕ) (l : List ℕ) (i : ℕ) where
-  pub bounded-low : i < length l → getD l i 0 ≤ lo → bounded lo hi (drop i l) ≡ false
-  bounded-low h e = rw (drop-cons l i 0, le-ltb lo (getD l i 0) e) (none-both (leb lo hi))
+  pub bounded-low : (b : Bool) → i < length l → getD l i 0 ≤ lo → both b (bounded lo hi (drop i l)) ≡ false
+  bounded-low b h e = rw (drop-cons l i 0, le-ltb lo (getD l i 0) e, none-both (leb lo hi)) (none-both b)
 
   pub bounded-next : i < length l → lo < getD l i 0 → bounded lo hi (drop i l) ≡ bounded (getD l i 0) hi (drop (i + 1) l)
   bounded-next h e = rw (add-one, drop-cons l i 0) (bounded-cons lo hi (getD l i 0) (drop (suc i) l) e)

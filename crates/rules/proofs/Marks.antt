@@ -4,6 +4,7 @@ use mathlib.Core.Path.{_≡_, refl, ap, sym}
 use mathlib.Core.Bool.{Bool, true, false}
 use mathlib.Core.List.{List, [], _∷_}
 use native.Mathlib.Numerals.{add-one}
+use native.Mathlib.Omega.{arith}
 use lib.ListN.{length, drop, getD, set, replicate, drop-of-length-le}
 use lib.Seq.{drop-cons, getD-set-same, getD-set-other}
 use lib.Dec.{eqb}
@@ -71,3 +72,9 @@ pub blank-at : {A : Type 0} (none : A) (n o : ℕ) → getD (replicate n none) o
 blank-at none zero o = refl
 blank-at none (suc n) zero = refl
 blank-at none (suc n) (suc o) = blank-at none n o
+
+-- of fewer than two numbers none stands twice
+pub few-once : (os : List ℕ) → length os < 2 → twiceB os ≡ false
+few-once [] h = refl
+few-once (x ∷ []) h = refl
+few-once (x ∷ y ∷ os) h = absurd (omega arith)

@@ -55,24 +55,31 @@ pub fn named_twice(objects: &[u64]) -> bool
     requires { ⌜ allB (λ o. ltb o 512) (now objects) ≡ true ⌝ }
     ensures { λ r. ⌜ r ≡ twiceB (now (objects .entry)) ⌝ }
 {
+    if objects.len() < 2 {
+        return false;
+    }
     let mut seen = [false; 512];
     met_again(objects, &mut seen)
 }
 
-// Strictly ascending, and each with prev < stamp <= curr: the last one is the largest.
+// Strictly ascending, and each with prev < stamp <= curr: the last one is the largest. No stamp ends the loop early.
 pub fn ascending_within(prev: u64, curr: u64, stamps: &[u64]) -> bool
     requires { ⌜ prev ≤ curr ⌝ }
     ensures { λ r. ⌜ r ≡ both (risingFrom prev (now (stamps .entry))) (allB (λ s. leb s curr) (now (stamps .entry))) ⌝ }
 {
+    let mut rising = true;
     let mut below = prev;
     let mut i: usize = 0;
     while i < stamps.len() {
         let stamp = stamps[i];
         if stamp <= below {
-            return false;
+            rising = false;
         }
         below = stamp;
         i += 1;
+    }
+    if !rising {
+        return false;
     }
     below <= curr
 }

@@ -1,84 +1,77 @@
--- Lulls: how the end of one is found, and that in a lull no value of the page as of a stamp was written beyond an earlier one.
-use Prim.Native.Nat.{ℕ, _+_, _/_, _≤_, _<_}
+-- Lulls: how the newest stamp before one is found, and that in a lull no value of the page as of a stamp was written beyond an earlier one.
+use Prim.Native.Nat.{ℕ, _+_, _/_, _≤_, _<_, max}
 use mathlib.Core.Path.{_≡_, refl, ap, sym, _∙_}
 use mathlib.Core.Bool.{Bool, true, false}
 use mathlib.Core.List.{List, [], _∷_}
 use native.Mathlib.Omega.{arith}
 use lib.ListN.{length, take, drop, getD}
-use lib.Seq.{take-all}
 use lib.Dec.{eqb, ltb, leb}
-use borrow.Author.Tests.{lt-ltb, le-ltb, ltb-true, ltb-false, le-leb, leb-true, leb-false, eqb-true, eqb-false}
+use borrow.Author.Tests.{lt-ltb, le-ltb, leb-true, leb-false, eqb-true, eqb-false}
 use Rattle.model.specs.declared.Seen.{Seen}
 use Rattle.model.specs.declared.Past.{Past}
 use Rattle.model.specs.declared.Pending.{Pending}
-use Rattle.model.specs.Lists.{both, either, pick, allB, kept}
+use Rattle.model.specs.Lists.{both, allB, kept}
 use Rattle.model.specs.Store.{slotOf, pastSeen, pendingSeen, objectAt}
 use Rattle.tables.specs.declared.Heads.{Heads}
 use Rattle.tables.specs.Rows.{pendingOf, pastOf, pendings, pasts}
 use Rattle.tables.specs.Contents.{contents}
-use Rattle.tables.proofs.Cases.{by-test, clash}
+use Rattle.tables.proofs.Cases.{by-test}
 use Rattle.tables.proofs.Counts.{up-to-take}
 use Rattle.tables.proofs.Searches.{drop-end, both-left, both-right}
 use Rattle.views.specs.declared.View.{View}
 use Rattle.views.specs.Views.{viewed, partOf, coversB, showsB, Lookable}
 use Rattle.views.proofs.Laying.{wordOr}
 use Rattle.views.proofs.Words.{past-word, pending-word}
-use Rattle.shares.specs.declared.Lull.{Lull}
-use Rattle.shares.specs.Lulls.{soonest, outsideB, Still}
+use Rattle.shares.specs.Lulls.{newerOf, newestOf, Lull, outsideB, Still}
 use Rattle.shares.proofs.Numbers.{next-row}
 use Rattle.shares.proofs.Laying.{row-there, entry-there}
 
--- ---- the end of a lull, found row by row
-module _ {A : Type 0} (stamp : A → ℕ) (s : ℕ) where
-  module _ (l : List A) (n i b : ℕ) {t : ℕ} (v : soonest stamp s b (drop i (take n l)) ≡ t) where
-    module _ (d : A) (h : i < n) (m : n ≤ length l) {x : A} (p : x ≡ getD l i d) where
-      soon-next : (z : Bool) → both (ltb s (stamp x)) (ltb (stamp x) b) ≡ z → soonest stamp s (pick z (stamp x) b) (drop (i + 1) (take n l)) ≡ t
-      soon-next z e =
-          let rest = drop (i + 1) (take n l) in
-          sym (ap (soonest stamp s b) (next-row l n i d h m ∙ ap (λ y. y ∷ rest) (sym p)) ∙ ap (λ r. soonest stamp s (pick r (stamp x) b) rest) e) ∙ v
+-- ---- the newer of two stamps
+module _ (bound b w : ℕ) where
+  pub newer-beyond : bound < w → b ≡ newerOf bound b w
+  newer-beyond h = rw (lt-ltb bound w h)
 
-      pub sooner : both (ltb s (stamp x)) (ltb (stamp x) b) ≡ true → soonest stamp s (stamp x) (drop (i + 1) (take n l)) ≡ t
-      sooner e = soon-next true e
+  pub newer-max : w ≤ bound → {r : ℕ} → r ≡ max b w → r ≡ newerOf bound b w
+  newer-max h e = rw (le-ltb bound w h) e
 
-      pub no-sooner : both (ltb s (stamp x)) (ltb (stamp x) b) ≡ false → soonest stamp s b (drop (i + 1) (take n l)) ≡ t
-      no-sooner e = soon-next false e
+  newer-least : b ≤ newerOf bound b w
+  newer-least = by-test (ltb bound w) (λ e. rw e (omega arith)) (λ e. rw e (omega arith))
 
-    pub soonest-end : n ≤ i → b ≡ t
-    soonest-end h = rw (drop-end n l i h) at v
+-- ---- the newest of a stamp and of those up to a bound, found row by row
+module _ {A : Type 0} (stamp : A → ℕ) (bound : ℕ) where
+  module _ (l : List A) (n i b : ℕ) {t : ℕ} (v : newestOf stamp bound b (drop i (take n l)) ≡ t) where
+    pub newest-next : (d : A) → i < n → n ≤ length l → {x : A} → x ≡ getD l i d → {r : ℕ} → r ≡ newerOf bound b (stamp x)
+        → newestOf stamp bound r (drop (i + 1) (take n l)) ≡ t
+    newest-next d h m {x} p e =
+        let rest = drop (i + 1) (take n l) in
+        ap (λ (k : ℕ). newestOf stamp bound k rest) e
+        ∙ sym (ap (newestOf stamp bound b) (next-row l n i d h m ∙ ap (λ y. y ∷ rest) (sym p)))
+        ∙ v
 
-  -- what is chosen is no later than both
-  least-bound : (w b : ℕ) → pick (both (ltb s w) (ltb w b)) w b ≤ b
-  least-bound w b =
-      by-test (both (ltb s w) (ltb w b)) (λ e. rw e (omega (arith, ltb-true w b (both-right (ltb s w) (ltb w b) e)))) (λ e. rw e (omega arith))
+    pub newest-end : n ≤ i → b ≡ t
+    newest-end h = rw (drop-end n l i h) at v
 
-  least-stamp : (w b : ℕ) → s < w → pick (both (ltb s w) (ltb w b)) w b ≤ w
-  least-stamp w b h =
-      let q = lt-ltb s w h in
-      by-test (ltb w b) (λ e. rw (q, e) (omega arith)) (λ e. rw (q, e) (ltb-false w b e))
+  pub newest-least : (b : ℕ) (l : List A) → b ≤ newestOf stamp bound b l
+  newest-least b [] = omega arith
+  newest-least b (x ∷ xs) =
+      let ih = newest-least (newerOf bound b (stamp x)) xs in
+      omega (arith, newer-least bound b (stamp x))
 
-  pub soonest-bound : (b : ℕ) (l : List A) → soonest stamp s b l ≤ b
-  soonest-bound b [] = omega arith
-  soonest-bound b (x ∷ xs) =
-      let ih = soonest-bound (pick (both (ltb s (stamp x)) (ltb (stamp x) b)) (stamp x) b) xs in
-      omega (arith, least-bound (stamp x) b)
-
-  pub soonest-outside : (c b : ℕ) (l : List A) → c ≤ soonest stamp s b l → allB (λ x. outsideB (record { from = s; until = c }) (stamp x)) l ≡ true
-  soonest-outside c b [] h = refl
-  soonest-outside c b (x ∷ xs) h =
+  -- behind the newest, and up to the bound, there is none
+  pub newest-outside : (r b : ℕ) (l : List A) → newestOf stamp bound b l ≤ r → allB (λ x. outsideB (record { from = r; until = bound + 1 }) (stamp x)) l ≡ true
+  newest-outside r b [] h = refl
+  newest-outside r b (x ∷ xs) h =
       let w = stamp x in
-      let b′ = pick (both (ltb s w) (ltb w b)) w b in
-      let ih = soonest-outside c b′ xs h in
-      by-test (leb w s)
+      let b′ = newerOf bound b w in
+      let ih = newest-outside r b′ xs h in
+      by-test (leb w r)
       (λ e. rw e ih)
       (λ e.
-      let m : c ≤ w = omega (arith, h, soonest-bound b′ xs, least-stamp w b (leb-false w s e)) in
-      rw (e, le-leb c w m) ih)
-
-pub outside-none : {A : Type 0} (stamp : A → ℕ) (l : List A) → allB (λ x. outsideB (record { from = 0; until = 0 }) (stamp x)) l ≡ true
-outside-none stamp [] = refl
-outside-none stamp (x ∷ xs) =
-    let ih = outside-none stamp xs in
-    by-test (leb (stamp x) 0) (λ e. rw e ih) (λ e. rw (e, le-leb 0 (stamp x) (omega arith)) ih)
+      by-test (leb (bound + 1) w)
+      (λ q. rw (e, q) ih)
+      (λ q.
+      let m : w ≤ bound = omega (arith, leb-false (bound + 1) w q) in
+      absurd (omega (arith, leb-false w r e, h, newest-least b′ xs, newer-max bound b w m refl))))
 
 -- ---- a word that is laid over w, of rows that pass f, which all pass g
 module _ {A : Type 0} (f g c : A → Bool) (slot word : A → ℕ) (k s : ℕ) (t : (x : A) → f x ≡ true → g x ≡ true) (u : (x : A) → f x ≡ true → c x ≡ true → word x ≤ s) where
@@ -140,10 +133,3 @@ module _ (p n : ℕ) where
 pub newest-more : (l : List ℕ) (at k m x : ℕ) → ((j : ℕ) → j < k → getD l (at + j) 0 ≤ m) → getD l (at + k) 0 ≤ x → m ≤ x → (j : ℕ) → j < k + 1 → getD l (at + j) 0 ≤ x
 newest-more l at k m x f g h j b =
     by-test (eqb j k) (λ e. rw (eqb-true j k e) g) (λ e. let z = eqb-false j k e in omega (arith, f j (omega arith)))
-
--- ---- between two stamps
-pub between-yes : (s w b : ℕ) → s < w → ltb w b ≡ both (ltb s w) (ltb w b)
-between-yes s w b h = rw (lt-ltb s w h)
-
-pub between-no : (s w b : ℕ) → w ≤ s → false ≡ both (ltb s w) (ltb w b)
-between-no s w b h = rw (le-ltb s w h)

@@ -1,2 +1,3 @@
 pub mod Shares
 pub mod Lulls
+pub mod Many

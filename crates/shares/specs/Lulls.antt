@@ -1,21 +1,29 @@
--- A lull: no value of a page was written beyond one stamp and before another.
-use Prim.Native.Nat.{ℕ}
+-- The newest of a page's writing stamps, and a lull: no value of a page was written beyond one stamp and before another.
+use Prim.Native.Nat.{ℕ, max}
 use mathlib.Core.Path.{_≡_}
 use mathlib.Core.Bool.{Bool, true}
 use mathlib.Core.List.{List, [], _∷_}
 use lib.ListN.{take}
 use lib.Dec.{ltb, leb}
-use Rattle.model.specs.Lists.{both, either, pick, allB, kept}
+use Rattle.model.specs.Lists.{either, pick, allB, kept}
 use Rattle.model.specs.Changes.{ofPage}
 use Rattle.tables.specs.declared.Heads.{Heads}
 use Rattle.tables.specs.Rows.{pendings, pasts}
-use Rattle.shares.specs.declared.Lull.{Lull}
 use Rattle.shares.specs.Shares.{rowOfPage}
 
--- the least of a bound and of the stamps beyond s
-abbrev pub soonest : {A : Type 0} → (A → ℕ) → ℕ → ℕ → List A → ℕ
-soonest stamp s bound [] = bound
-soonest stamp s bound (x ∷ xs) = soonest stamp s (pick (both (ltb s (stamp x)) (ltb (stamp x) bound)) (stamp x) bound) xs
+-- the newer of two stamps, the second where it isn't beyond a bound
+abbrev pub newerOf : ℕ → ℕ → ℕ → ℕ
+newerOf bound newest w = pick (ltb bound w) newest (max newest w)
+
+-- the newest of a stamp and of those of a list that aren't beyond a bound
+abbrev pub newestOf : {A : Type 0} → (A → ℕ) → ℕ → ℕ → List A → ℕ
+newestOf stamp bound least [] = least
+newestOf stamp bound least (x ∷ xs) = newestOf stamp bound (newerOf bound least (stamp x)) xs
+
+-- no value of a page was written beyond one stamp and before the other
+pub record Lull : Type 0 where
+  pub from : ℕ
+  pub until : ℕ
 
 -- a stamp outside a lull
 abbrev pub outsideB : Lull → ℕ → Bool

@@ -1,5 +1,6 @@
 // A page's share of the tables: the numbers of its past rows and of its entries, found once, so that no other rows are looked at again.
 pub mod look;
+pub mod many;
 pub mod quiet;
 
 use model::Past;
@@ -19,12 +20,6 @@ ghost use Rattle.shares.specs.Shares.{rowOfPage, Numbered, Shared};
 pub struct Share {
     pub rows: usize,
     pub entries: usize,
-}
-
-// No value of a page was written beyond one stamp and before the other.
-pub struct Lull {
-    pub from: u64,
-    pub until: u64,
 }
 
 fn entry_of_page(e: Pending, page: u64) -> bool

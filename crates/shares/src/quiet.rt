@@ -1,5 +1,4 @@
-// Spans of stamps in which nothing of a page was written.
-use crate::Lull;
+// The newest of a page's writing stamps up to a bound: behind it, and up to the bound, nothing of the page was written.
 use crate::Share;
 use tables::Disk;
 use tables::Heads;
@@ -7,112 +6,73 @@ use tables::PastTable;
 use tables::PendingTable;
 ghost use mathlib.Core.Path.{_≡_};
 ghost use mathlib.Core.List.{[]};
-ghost use Prim.Native.Nat.{ℕ, _<_, _≤_};
+ghost use Prim.Native.Nat.{ℕ, _+_, _<_, _≤_};
 ghost use lib.ListN.{length, take, getD};
-ghost use lib.Dec.{ltb};
-ghost use Rattle.model.specs.Lists.{both, kept};
+ghost use Rattle.model.specs.Lists.{kept};
 ghost use Rattle.model.specs.Changes.{ofPage};
 ghost use Rattle.model.specs.Store.{objectAt};
 ghost use Rattle.tables.specs.Rows.{pendingOf, pastOf, pendings, pasts};
 ghost use Rattle.shares.specs.Shares.{rowOfPage, Numbered, Shared};
-ghost use Rattle.shares.specs.Lulls.{soonest, Still};
+ghost use Rattle.shares.specs.Lulls.{newerOf, newestOf, Still};
 
-fn between(s: u64, stamp: u64, bound: u64) -> bool
-    ensures { λ r. ⌜ r ≡ both (ltb s stamp) (ltb stamp bound) ⌝ }
+// The larger of a stamp and the newest so far, where it isn't beyond the bound.
+fn newer(newest: u64, stamp: u64, bound: u64) -> u64
+    ensures { λ r. ⌜ r ≡ newerOf bound newest stamp ⌝ }
 {
-    if s < stamp {
-        return stamp < bound;
+    if bound < stamp {
+        return newest;
     }
-    false
+    if newest < stamp { stamp } else { newest }
 }
 
-// The least of a bound and of the stamps beyond s that wrote the page's past rows.
-fn soonest_row(
+// The newest of a stamp and of those up to the bound that wrote the page's past rows.
+fn newest_row(
     past: &PastTable,
     n: usize,
     page: u64,
     numbers: &[u8; 256],
     k: usize,
-    s: u64,
     bound: u64,
+    least: u64,
 ) -> u64
     requires { ⌜ Numbered (pastOf []) (rowOfPage page) (pasts (now past)) n (now numbers) k × (n ≤ 256) ⌝ }
-    ensures { λ r. ⌜ r ≡ soonest (λ q. q .from) s bound (kept (rowOfPage page) (take n (pasts (now (past .entry))))) ⌝ }
+    ensures { λ r. ⌜ r ≡ newestOf (λ q. q .from) bound least (kept (rowOfPage page) (take n (pasts (now (past .entry))))) ⌝ }
 {
-    let mut least = bound;
+    let mut newest = least;
     let mut j: usize = 0;
     while j < k {
         let q = crate::row_at(past, numbers, j);
+        newest = newer(newest, q.from, bound);
         j += 1;
-        if between(s, q.from, least) {
-            least = q.from;
-        }
     }
-    least
+    newest
 }
 
 // The same of the page's entries.
-fn soonest_entry(
+fn newest_entry(
     pending: &PendingTable,
     n: usize,
     page: u64,
     numbers: &[u8; 128],
     k: usize,
-    s: u64,
     bound: u64,
+    least: u64,
 ) -> u64
     requires { ⌜ Numbered (pendingOf []) (ofPage page) (pendings (now pending)) n (now numbers) k × (n ≤ 128) ⌝ }
-    ensures { λ r. ⌜ r ≡ soonest (λ e. e .latest) s bound (kept (ofPage page) (take n (pendings (now (pending .entry))))) ⌝ }
+    ensures { λ r. ⌜ r ≡ newestOf (λ e. e .latest) bound least (kept (ofPage page) (take n (pendings (now (pending .entry))))) ⌝ }
 {
-    let mut least = bound;
+    let mut newest = least;
     let mut j: usize = 0;
     while j < k {
         let e = crate::entry_at(pending, numbers, j);
+        newest = newer(newest, e.latest, bound);
         j += 1;
-        if between(s, e.latest, least) {
-            least = e.latest;
-        }
     }
-    least
+    newest
 }
 
-// The lull behind a stamp.
-pub fn lull_after(
-    pending: &PendingTable,
-    past: &PastTable,
-    h: Heads,
-    page: u64,
-    share: Share,
-    row_numbers: &[u8; 256],
-    entry_numbers: &[u8; 128],
-    s: u64,
-) -> Lull
-    requires { ⌜ Shared (now pending) (now past) h page share (now «row_numbers») (now «entry_numbers») × (h .pending ≤ 128) × (h .past ≤ 256) ⌝ }
-    ensures { λ r. ⌜ Still (now (pending .entry)) (now (past .entry)) h page r ⌝ }
-{
-    let last = 18446744073709551615;
-    let bound = soonest_row(past, h.past, page, row_numbers, share.rows, s, last);
-    let until = soonest_entry(
-        pending,
-        h.pending,
-        page,
-        entry_numbers,
-        share.entries,
-        s,
-        bound,
-    );
-    Lull { from: s, until }
-}
-
-// A lull without stamps.
-pub fn no_lull(pending: &PendingTable, past: &PastTable, h: Heads, page: u64) -> Lull
-    ensures { λ r. ⌜ Still (now (pending .entry)) (now (past .entry)) h page r ⌝ }
-{
-    Lull { from: 0, until: 0 }
-}
-
-// The newest of the stamps that wrote the page's values on disk.
-pub fn newest_on_disk(dated: &Disk, page: u64) -> u64
+// The newest of the stamps that wrote the page's values on disk: as of every stamp they are what shows where nothing else does.
+fn newest_on_disk(dated: &Disk, page: u64) -> u64
     requires { ⌜ (length (now dated) ≡ 512) × (page < 32) ⌝ }
     ensures { λ r. ⌜ ((k : ℕ) → k < 16 → getD (now (dated .entry)) (objectAt page k) 0 ≤ r) ⌝ }
 {
@@ -127,4 +87,34 @@ pub fn newest_on_disk(dated: &Disk, page: u64) -> u64
         }
     }
     newest
+}
+
+// The newest of the page's stamps on disk, and of those up to the bound that wrote its past rows and its entries.
+pub fn newest_up_to(
+    dated: &Disk,
+    pending: &PendingTable,
+    past: &PastTable,
+    h: Heads,
+    page: u64,
+    share: Share,
+    row_numbers: &[u8; 256],
+    entry_numbers: &[u8; 128],
+    bound: u64,
+) -> u64
+    requires { ⌜ Shared (now pending) (now past) h page share (now «row_numbers») (now «entry_numbers») × (h .pending ≤ 128) × (h .past ≤ 256) ⌝ }
+    requires { ⌜ (length (now dated) ≡ 512) × (page < 32) ⌝ }
+    ensures { λ r. ⌜ Still (now (pending .entry)) (now (past .entry)) h page (record { from = r; until = bound + 1 }) ⌝ }
+    ensures { λ r. ⌜ ((k : ℕ) → k < 16 → getD (now (dated .entry)) (objectAt page k) 0 ≤ r) ⌝ }
+{
+    let a = newest_on_disk(dated, page);
+    let b = newest_row(past, h.past, page, row_numbers, share.rows, bound, a);
+    newest_entry(
+        pending,
+        h.pending,
+        page,
+        entry_numbers,
+        share.entries,
+        bound,
+        b,
+    )
 }

@@ -1,12 +1,10 @@
--- A loop from the last row to the first: its start, one turn and its end; and the turn of the largest snapshot at or before a time.
+-- A loop from the last row to the first: its start, one turn and its end.
 use Prim.Native.Nat.{ℕ, zero, suc, _-_, _<_, _≤_}
 use mathlib.Core.Path.{_≡_, refl, _∙_, ap}
 use mathlib.Core.List.{List, [], _∷_}
 use native.Mathlib.Omega.{arith}
 use lib.ListN.{length, take, drop, getD}
 use lib.Seq.{slice-cons}
-use borrow.Author.Tests.{le-leb, lt-leb}
-use Rattle.model.specs.Reads.{largest}
 use Rattle.tables.proofs.Searches.{drop-end}
 
 -- a turn from row i to row i - 1, of the first n rows
@@ -26,13 +24,3 @@ back-cons {A} {l} {n} {i} t d =
 pub back-end : {A : Type 0} (i : ℕ) (l : List A) → i ≤ 0 → drop i l ≡ l
 back-end zero l h = refl
 back-end (suc i) l h = absurd (omega arith)
-
-module _ {l : List ℕ} {n i : ℕ} (t : Turn l n i) (time : ℕ) {best : ℕ} (v : best ≡ largest time (drop i (take n l))) where
-  pub largest-new : getD l (i - 1) 0 ≤ time → best < getD l (i - 1) 0 → getD l (i - 1) 0 ≡ largest time (drop (i - 1) (take n l))
-  largest-new e b = rw (back-cons t 0, le-leb _ _ e) (omega arith)
-
-  pub largest-old : getD l (i - 1) 0 ≤ time → getD l (i - 1) 0 ≤ best → best ≡ largest time (drop (i - 1) (take n l))
-  largest-old e b = rw (back-cons t 0, le-leb _ _ e) (omega arith)
-
-  pub largest-past : time < getD l (i - 1) 0 → best ≡ largest time (drop (i - 1) (take n l))
-  largest-past e = rw (back-cons t 0, lt-leb _ _ e) v

@@ -6,9 +6,12 @@ pub mod Trims
 pub mod Copies
 pub mod Marks
 pub mod Oldest
+pub mod Rising
+pub mod Known
 pub mod Living
 pub mod Keeping
 pub mod Counts
 pub mod Bridges
+pub mod Indexing
 pub mod Compacts
 pub mod Lent

@@ -7,7 +7,8 @@ use lib.ListN.{getD}
 use borrow.Author.Tests.{eq-eqb, ne-eqb}
 use Rattle.model.specs.declared.Past.{Past}
 use Rattle.model.specs.Store.{Copy, mark, pageOf, beyondB, liveB}
-use Rattle.tables.specs.Lookups.{wantedB, inScope, staysBy}
+use Rattle.tables.specs.Lookups.{lastBefore, wantsB, wantedB, inScope, staysBy}
+use Rattle.tables.proofs.Known.{wanted-last}
 
 module _ (h : ℕ) (known : List ℕ) (q : Past) where
   pub live-beyond : (cs : List Copy) → beyondB h q ≡ true → true ≡ liveB h known cs q
@@ -23,8 +24,9 @@ module _ (h : ℕ) (known : List ℕ) (q : Past) where
     pub stays-beyond : inScope scope q ≡ true → beyondB h q ≡ true → true ≡ staysBy scope h known marks q
     stays-beyond e f = rw (e, f)
 
-    pub stays-mark : (m : ℕ) → inScope scope q ≡ true → beyondB h q ≡ false → m ≡ getD marks (pageOf (q .object)) 0 → wantedB known m q ≡ staysBy scope h known marks q
-    stays-mark m e f g = rw (e, f, g)
+    pub stays-last : (s m : ℕ) → s ≡ lastBefore known (q .until) → inScope scope q ≡ true → beyondB h q ≡ false → m ≡ getD marks (pageOf (q .object)) 0
+        → wantsB s m q ≡ staysBy scope h known marks q
+    stays-last s m l e f g = rw (l, ← wanted-last known m q, e, f, g)
 
 -- a row in scope: every page is, or its own
 pub scope-all : (scope : ℕ) (q : Past) → scope ≡ 32 → inScope scope q ≡ true

@@ -31,15 +31,6 @@ module _ {A : Type 0} (f : A → Bool) (d : A) (l : List A) where
   trim-end zero h = refl
   trim-end (suc i) h = absurd (omega arith)
 
-  -- the last row that is left passes
-  pub trim-last : (n : ℕ) → 0 < trimmed f d l n → f (getD l (trimmed f d l n - 1) d) ≡ true
-  trim-last zero = λ h. absurd (omega arith)
-  trim-last (suc n) =
-      let ih = trim-last n in
-      picked (λ r. 0 < r → f (getD l (r - 1) d) ≡ true) (f (getD l n d)) (suc n) (trimmed f d l n)
-      (λ e h. subst (λ j. f (getD l j d) ≡ true) (sym (before n)) e)
-      (λ e. ih)
-
   -- what no row that doesn't pass changes
   pub trim-keeps : (P : ℕ → Type 0) (n : ℕ) → ((i : ℕ) → i < n → f (getD l i d) ≡ false → P (suc i) → P i) → P n → P (trimmed f d l n)
   trim-keeps P zero g p = p

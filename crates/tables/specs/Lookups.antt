@@ -1,15 +1,16 @@
 -- What the searches answer, by the model's definitions.
-use Prim.Native.Nat.{ℕ, zero, suc, _<_}
+use Prim.Native.Nat.{ℕ, zero, suc, _-_, _<_}
 use mathlib.Core.Path.{_≡_}
 use mathlib.Core.Bool.{Bool, true, false, not}
 use mathlib.Core.List.{List, [], _∷_}
 use lib.ListN.{length, getD, take}
-use lib.Dec.{ltb, eqb}
+use lib.Dec.{ltb, leb, eqb}
 use Rattle.model.specs.declared.Pending.{Pending}
 use Rattle.model.specs.declared.Past.{Past}
 use Rattle.model.specs.Limits.{pages}
 use Rattle.model.specs.Lists.{both, either, pick, anyB}
 use Rattle.model.specs.Store.{Copy, Served, unserved, by, oldest, pageOf, inSpan, beyondB}
+use Rattle.model.specs.Reads.{largest}
 use Rattle.tables.specs.declared.CopyHead.{CopyHead}
 use Rattle.tables.specs.declared.Found.{Found}
 use Rattle.tables.specs.declared.Found.the-variants.{At, Nothing}
@@ -55,6 +56,14 @@ Within (At i) n = i < n
 pub record Serving (p s n : ℕ) (heads : List CopyHead) (f : Found) : Type 0 where
   pub copy : (words : List ℕ) → servedAt f (copiesOf heads words) ≡ oldest p s (take n (copiesOf heads words))
   pub inside : Within f n
+
+-- the last known snapshot before a stamp, or 0
+abbrev pub lastBefore : List ℕ → ℕ → ℕ
+lastBefore known u = pick (eqb u 0) 0 (largest (u - 1) known)
+
+-- a stamp that is not before the row's span, beyond a mark
+abbrev pub wantsB : ℕ → ℕ → Past → Bool
+wantsB s m q = both (leb (q .from) s) (ltb m s)
 
 -- a known snapshot in the row's span, beyond a mark
 abbrev pub wantedB : List ℕ → ℕ → Past → Bool

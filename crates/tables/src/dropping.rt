@@ -3,12 +3,13 @@ use crate::PastTable;
 use crate::Snapshots;
 use model::Past;
 ghost use mathlib.Core.Path.{_≡_};
-ghost use mathlib.Core.List.{map};
-ghost use Prim.Native.Nat.{_≤_, _<_};
+ghost use mathlib.Core.Bool.{true};
+ghost use mathlib.Core.List.{List, map};
+ghost use Prim.Native.Nat.{ℕ, _≤_, _<_};
 ghost use lib.ListN.{length, take};
-ghost use Rattle.model.specs.Lists.{allB, kept};
+ghost use Rattle.model.specs.Lists.{allB, kept, risingFrom};
 ghost use Rattle.tables.specs.Rows.{pasts};
-ghost use Rattle.tables.specs.Lookups.{staysBy};
+ghost use Rattle.tables.specs.Lookups.{lastBefore, staysBy};
 ghost use Rattle.tables.specs.Compaction.{after, Compacted};
 
 // Rows, the first n of them kept.
@@ -17,17 +18,11 @@ pub struct Front {
     pub n: usize,
 }
 
-// A row outside the scope stays, and so does a live one. The scope is a page, or 32 for every page.
-fn stays(
-    q: Past,
-    scope: u64,
-    horizon: u64,
-    snapshots: &Snapshots,
-    known: usize,
-    marks: &[u64; 32],
-) -> bool
-    requires { ⌜ (known ≤ 64) × (length (now snapshots) ≡ 64) × (length (now marks) ≡ 32) ⌝ }
-    ensures { λ r. ⌜ r ≡ staysBy scope horizon (take known (now (snapshots .entry))) (now (marks .entry)) q ⌝ }
+// A row outside the scope stays, and so does a live one. The scope is a page, or 32 for every page; s is the last known
+// snapshot before the row's end.
+fn stays(q: Past, scope: u64, horizon: u64, s: u64, marks: &[u64; 32]) -> bool
+    requires { ⌜ length (now marks) ≡ 32 ⌝ }
+    ensures { λ r. ⌜ ((known : List ℕ) → s ≡ lastBefore known (q .until) → r ≡ staysBy scope horizon known (now (marks .entry)) q) ⌝ }
 {
     let page = q.object / 16;
     if scope != 32 {
@@ -40,9 +35,9 @@ fn stays(
     }
     if page < 32 {
         let at = page as usize;
-        return crate::lookups::wanted(q, snapshots, known, marks[at]);
+        return crate::lookups::wants(q, s, marks[at]);
     }
-    crate::lookups::wanted(q, snapshots, known, 0)
+    crate::lookups::wants(q, s, 0)
 }
 
 // The place after a row.
@@ -107,7 +102,7 @@ fn unpacked(t: &PastTable, n: usize) -> [Past; 256]
     rows
 }
 
-// Which of the first n rows stay.
+// Which of the first n rows stay. Rows that one commit displaced end together, and their search is made once.
 fn judged(
     t: &PastTable,
     n: usize,
@@ -117,14 +112,20 @@ fn judged(
     known: usize,
     marks: &[u64; 32],
 ) -> [bool; 256]
-    requires { ⌜ (n ≤ 256) × (length (pasts (now t)) ≡ 256) × (known ≤ 64) × (length (now snapshots) ≡ 64) × (length (now marks) ≡ 32) ⌝ }
+    requires { ⌜ (n ≤ 256) × (length (pasts (now t)) ≡ 256) × (known ≤ 64) × (length (now snapshots) ≡ 64) × (length (now marks) ≡ 32) × (risingFrom 0 (take known (now snapshots)) ≡ true) ⌝ }
     ensures { λ r. ⌜ take n r ≡ take n (map (staysBy scope horizon (take known (now (snapshots .entry))) (now (marks .entry))) (pasts (now (t .entry)))) ⌝ }
 {
     let mut stay = unjudged();
+    let mut until: u64 = 0;
+    let mut s: u64 = 0;
     let mut i: usize = 0;
     while i < n {
         let q = crate::past_at(t, i);
-        stay[i] = stays(q, scope, horizon, snapshots, known, marks);
+        if q.until != until {
+            until = q.until;
+            s = crate::lookups::last_before(snapshots, known, until);
+        }
+        stay[i] = stays(q, scope, horizon, s, marks);
         i += 1;
     }
     stay
@@ -167,7 +168,7 @@ pub fn drop_dead(
     known: usize,
     marks: &[u64; 32],
 ) -> usize
-    requires { ⌜ (n ≤ 256) × (length (pasts (now t)) ≡ 256) × (known ≤ 64) × (length (now snapshots) ≡ 64) × (length (now marks) ≡ 32) ⌝ }
+    requires { ⌜ (n ≤ 256) × (length (pasts (now t)) ≡ 256) × (known ≤ 64) × (length (now snapshots) ≡ 64) × (length (now marks) ≡ 32) × (risingFrom 0 (take known (now snapshots)) ≡ true) ⌝ }
     ensures { λ r. ⌜ (take r (pasts (now (t .exit))) ≡ kept (staysBy scope horizon (take known (now (snapshots .entry))) (now (marks .entry))) (take n (pasts (now (t .entry))))) × (r ≡ length (kept (staysBy scope horizon (take known (now (snapshots .entry))) (now (marks .entry))) (take n (pasts (now (t .entry)))))) × (length (pasts (now (t .exit))) ≡ 256) ⌝ }
 {
     let stay = judged(t, n, scope, horizon, snapshots, known, marks);

@@ -1,56 +1,62 @@
 // The searches: each goes once over the rows of one table. Those that follow a definition by recursion on the rows go from
-// the last row to the first.
+// the last row to the first. The snapshots ascend, and the search in them leaps.
 use crate::CopyTable;
 use crate::Found;
 use crate::PastTable;
-use crate::PendingTable;
 use crate::Snapshots;
 use model::Past;
 ghost use mathlib.Core.Path.{_≡_};
-ghost use mathlib.Core.Bool.{not, true};
+ghost use mathlib.Core.Bool.{true};
 ghost use mathlib.Core.List.{List, []};
-ghost use Prim.Native.Nat.{ℕ, _≤_, _<_};
+ghost use Prim.Native.Nat.{ℕ, _-_, _≤_, _<_};
 ghost use lib.ListN.{length, take, getD};
-ghost use lib.Dec.{eqb, ltb, leb};
-ghost use Rattle.model.specs.Lists.{both, either, anyB, allB};
-ghost use Rattle.model.specs.Store.{mark, pageOf, inSpan, beyondB, liveB};
+ghost use lib.Dec.{eqb, ltb};
+ghost use Rattle.model.specs.Lists.{allB, risingFrom};
+ghost use Rattle.model.specs.Store.{mark, pageOf, beyondB, liveB};
 ghost use Rattle.model.specs.Reads.{largest};
-ghost use Rattle.tables.specs.Rows.{pendingOf, pastOf, copyHeadOf, pendings, pasts, copyHeads, copiesOf};
-ghost use Rattle.tables.specs.Lookups.{findPending, trimmed, Serving, wantedB};
+ghost use Rattle.tables.specs.Rows.{pastOf, pasts, copyHeads, copiesOf};
+ghost use Rattle.tables.specs.Lookups.{trimmed, Serving, lastBefore, wantsB, wantedB};
 
-// The object's pending entry among the first n.
-pub fn find_pending(t: &PendingTable, n: usize, object: u64) -> Found
-    requires { ⌜ (n ≤ 128) × (length (pendings (now t)) ≡ 128) ⌝ }
-    ensures { λ r. ⌜ r ≡ findPending object (take n (pendings (now (t .entry)))) ⌝ }
-{
-    let mut i: usize = 0;
-    while i < n {
-        let e = crate::pending_at(t, i);
-        if e.object == object {
-            return Found::At(i);
-        }
-        i += 1;
-    }
-    Found::Nothing
-}
-
-// The largest of the first n snapshots at or before a time, or 0.
+// The largest of the first n snapshots at or before a time, or 0. They ascend, so it is the last of those at or before it.
 pub fn largest_known(snapshots: &Snapshots, n: usize, time: u64) -> u64
-    requires { ⌜ (n ≤ 64) × (length (now snapshots) ≡ 64) ⌝ }
+    requires { ⌜ (n ≤ 64) × (length (now snapshots) ≡ 64) × (risingFrom 0 (take n (now snapshots)) ≡ true) ⌝ }
     ensures { λ r. ⌜ r ≡ largest time (take n (now (snapshots .entry))) ⌝ }
 {
-    let mut best: u64 = 0;
-    let mut i = n;
-    while 0 < i {
-        i -= 1;
-        let s = snapshots[i];
-        if s <= time {
-            if best < s {
-                best = s;
-            }
-        }
+    let k = up_to(snapshots, n, leap(snapshots, n, time), time);
+    if k == 0 {
+        return 0;
     }
-    best
+    snapshots[k - 1]
+}
+
+// Eight snapshots at a step: how many are passed while the last of a step is at or before the time.
+fn leap(snapshots: &Snapshots, n: usize, time: u64) -> usize
+    requires { ⌜ (n ≤ 64) × (length (now snapshots) ≡ 64) ⌝ }
+    ensures { λ r. ⌜ (r ≤ n) × (0 < r → getD (now (snapshots .entry)) (r - 1) 0 ≤ time) ⌝ }
+{
+    let mut k: usize = 0;
+    while k + 8 <= n {
+        if time < snapshots[k + 7] {
+            return k;
+        }
+        k += 8;
+    }
+    k
+}
+
+// How many of the first n snapshots are at or before a time, where those before a start are.
+fn up_to(snapshots: &Snapshots, n: usize, from: usize, time: u64) -> usize
+    requires { ⌜ (n ≤ 64) × (length (now snapshots) ≡ 64) × («from» ≤ n) × (0 < «from» → getD (now snapshots) («from» - 1) 0 ≤ time) ⌝ }
+    ensures { λ r. ⌜ (r ≤ n) × (0 < r → getD (now (snapshots .entry)) (r - 1) 0 ≤ time) × (r < n → time < getD (now (snapshots .entry)) r 0) ⌝ }
+{
+    let mut k = from;
+    while k < n {
+        if time < snapshots[k] {
+            return k;
+        }
+        k += 1;
+    }
+    k
 }
 
 // The mark of a page by the first n copies.
@@ -101,29 +107,6 @@ fn clear(marks: &mut [u64; 32])
     }
 }
 
-// A copy is the better one where none was found, or where it is as old as the one found.
-fn better(found: bool, best: u64, stamp: u64) -> bool
-    ensures { λ r. ⌜ r ≡ either (not found) (leb stamp best) ⌝ }
-{
-    if found { stamp <= best } else { true }
-}
-
-// Of the first n copies, those up to the page's last. One test a row, for the rows of other pages are the most.
-fn trimmed_copies(t: &CopyTable, n: usize, page: u64) -> usize
-    requires { ⌜ n ≤ 128 ⌝ }
-    ensures { λ r. ⌜ (r ≡ trimmed (λ c. eqb (c .page) page) (copyHeadOf []) (copyHeads (now (t .entry))) n) × (r ≤ n) ⌝ }
-{
-    let mut i = n;
-    while 0 < i {
-        let c = crate::copy_at(t, i - 1);
-        if c.page == page {
-            return i;
-        }
-        i -= 1;
-    }
-    0
-}
-
 // Of the first n past rows, those up to the page's last.
 pub fn trimmed_past(t: &PastTable, n: usize, page: u64) -> usize
     requires { ⌜ n ≤ 256 ⌝ }
@@ -140,47 +123,28 @@ pub fn trimmed_past(t: &PastTable, n: usize, page: u64) -> usize
     0
 }
 
-// Of the first n pending entries, those up to the page's last.
-pub fn trimmed_pending(t: &PendingTable, n: usize, page: u64) -> usize
-    requires { ⌜ n ≤ 128 ⌝ }
-    ensures { λ r. ⌜ (r ≡ trimmed (λ e. eqb (pageOf (e .object)) page) (pendingOf []) (pendings (now (t .entry))) n) × (r ≤ n) ⌝ }
-{
-    let mut i = n;
-    while 0 < i {
-        let e = crate::pending_at(t, i - 1);
-        if e.object / 16 == page {
-            return i;
-        }
-        i -= 1;
-    }
-    0
-}
-
-// The page's oldest copy with stamp >= s, the first row among equals.
+// The page's oldest copy with stamp >= s, the first row among equals: from the last row to the first, so that a row as old as
+// the best one takes its place. 128 says that there is none.
 pub fn serving(t: &CopyTable, n: usize, page: u64, s: u64) -> Found
     requires { ⌜ (n ≤ 128) × (length (copyHeads (now t)) ≡ 128) ⌝ }
     ensures { λ r. ⌜ Serving page s n (copyHeads (now (t .entry))) r ⌝ }
 {
-    let mut found = false;
-    let mut best: u64 = 0;
-    let mut at: usize = 0;
+    let mut best: u64 = 18446744073709551615;
+    let mut at: usize = 128;
     let mut i = n;
     while 0 < i {
-        i = trimmed_copies(t, i, page);
-        if 0 < i {
-            i -= 1;
-            let c = crate::copy_at(t, i);
-            let stamp = c.stamp;
-            if s <= stamp {
-                if better(found, best, stamp) {
-                    found = true;
-                    best = stamp;
+        i -= 1;
+        let c = crate::copy_at(t, i);
+        if c.page == page {
+            if s <= c.stamp {
+                if c.stamp <= best {
+                    best = c.stamp;
                     at = i;
                 }
             }
         }
     }
-    if found {
+    if at < 128 {
         return Found::At(at);
     }
     Found::Nothing
@@ -197,31 +161,33 @@ pub fn beyond(q: Past, horizon: u64) -> bool
     }
 }
 
-// A stamp lies in the row's span, and beyond a mark.
-fn spans(q: Past, s: u64, marked: u64) -> bool
-    ensures { λ r. ⌜ r ≡ both (inSpan s q) (ltb marked s) ⌝ }
+// The last of the first n snapshots before a stamp, or 0.
+pub fn last_before(snapshots: &Snapshots, n: usize, until: u64) -> u64
+    requires { ⌜ (n ≤ 64) × (length (now snapshots) ≡ 64) × (risingFrom 0 (take n (now snapshots)) ≡ true) ⌝ }
+    ensures { λ r. ⌜ r ≡ lastBefore (take n (now (snapshots .entry))) until ⌝ }
 {
-    if q.from <= s {
-        if s < q.until { marked < s } else { false }
-    } else {
-        false
+    if until == 0 {
+        return 0;
     }
+    largest_known(snapshots, n, until - 1)
 }
 
-// Some known snapshot lies in the row's span, beyond a mark.
+// A stamp is not before the row's span, and is beyond a mark.
+pub fn wants(q: Past, s: u64, marked: u64) -> bool
+    ensures { λ r. ⌜ r ≡ wantsB s marked q ⌝ }
+{
+    if s < q.from {
+        return false;
+    }
+    marked < s
+}
+
+// Some known snapshot lies in the row's span, beyond a mark: if any does, the last one before the span's end.
 pub fn wanted(q: Past, snapshots: &Snapshots, n: usize, marked: u64) -> bool
-    requires { ⌜ (n ≤ 64) × (length (now snapshots) ≡ 64) ⌝ }
+    requires { ⌜ (n ≤ 64) × (length (now snapshots) ≡ 64) × (risingFrom 0 (take n (now snapshots)) ≡ true) ⌝ }
     ensures { λ r. ⌜ r ≡ wantedB (take n (now (snapshots .entry))) marked q ⌝ }
 {
-    let mut i: usize = 0;
-    while i < n {
-        let s = snapshots[i];
-        if spans(q, s, marked) {
-            return true;
-        }
-        i += 1;
-    }
-    false
+    wants(q, last_before(snapshots, n, q.until), marked)
 }
 
 // A past value is live.
@@ -233,7 +199,7 @@ pub fn live(
     copies: &CopyTable,
     n: usize,
 ) -> bool
-    requires { ⌜ (known ≤ 64) × (length (now snapshots) ≡ 64) × (n ≤ 128) × (length (copyHeads (now copies)) ≡ 128) ⌝ }
+    requires { ⌜ (known ≤ 64) × (length (now snapshots) ≡ 64) × (n ≤ 128) × (length (copyHeads (now copies)) ≡ 128) × (risingFrom 0 (take known (now snapshots)) ≡ true) ⌝ }
     ensures { λ r. ⌜ ((words : List ℕ) → r ≡ liveB horizon (take known (now (snapshots .entry))) (take n (copiesOf (copyHeads (now (copies .entry))) words)) q) ⌝ }
 {
     if beyond(q, horizon) {

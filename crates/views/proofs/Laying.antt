@@ -1,5 +1,5 @@
 -- Rows laid over words: a turn from the last row to the first, and what then stands at each slot.
-use Prim.Native.Nat.{ℕ, suc, _-_, _≤_, _<_}
+use Prim.Native.Nat.{ℕ, zero, suc, _-_, _≤_, _<_}
 use mathlib.Core.Path.{_≡_, refl, ap, sym, _∙_, subst}
 use mathlib.Core.Bool.{Bool, true, false}
 use mathlib.Core.List.{List, [], _∷_}
@@ -70,6 +70,10 @@ module _ {A : Type 0} (f : A → Bool) (slot word : A → ℕ) where
 
   pub lay-end : (i : ℕ) (l : List A) (out : List ℕ) → i ≤ 0 → lay f slot word (drop i l) out ≡ lay f slot word l out
   lay-end i l out h = rw (back-end i l h)
+
+  pub lay-none : (n : ℕ) (l : List A) (out : List ℕ) → n ≤ 0 → out ≡ lay f slot word (take n l) out
+  lay-none zero l out h = refl
+  lay-none (suc n) l out h = absurd (omega arith)
 
   pub lay-length : (l : List A) (out : List ℕ) → length (lay f slot word l out) ≡ length out
   lay-length [] out = refl

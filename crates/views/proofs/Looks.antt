@@ -49,8 +49,8 @@ module _ (values stamps : List ℕ) (qs : List Past) (v : View) where
     pub beneath-past : v .current ≡ false → pastOver v qs out ≡ beneath
     beneath-past e = rw d (past-page v below qs ∙ rw e)
 
--- ---- the page
-pub look-page : (values stamps : List ℕ) (pending past : List (List ℕ)) (h : Heads) (v : View) → Lookable values stamps pending past h (v .page)
+-- ---- the page, whatever the stamps
+pub look-page : (values stamps : List ℕ) (pending past : List (List ℕ)) (h : Heads) (v : View) → {any : List ℕ} → Lookable values any pending past h (v .page)
     → {out : List ℕ} → out ≡ beneath values stamps (take (h .past) (pasts past)) v
     → (snapshots : List ℕ) (copies : List (List ℕ)) (copied : List ℕ)
     → pendingOver v (take (h .pending) (pendings pending)) out

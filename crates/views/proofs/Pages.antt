@@ -1,13 +1,15 @@
--- Sixteen words by their slots: a list that is a page, those from a place on, and how they are copied.
+-- Sixteen words by their slots: a list that is a page, those from a place on, and how they are copied and replaced.
 use Prim.Native.Nat.{ℕ, zero, suc, _+_, _≤_, _<_}
 use mathlib.Core.Path.{_≡_, refl, ap, sym, _∙_, subst}
-use mathlib.Core.List.{List}
+use mathlib.Core.Bool.{Bool}
+use mathlib.Core.List.{List, _∷_, _++_, append-nil}
 use native.Mathlib.Omega.{arith}
 use native.Mathlib.Numerals.{add-one}
-use lib.ListN.{length, take, drop, getD, set, length-take, length-drop}
-use lib.Seq.{ext-getD, getD-take, getD-drop, take-all, take-suc, take-suc-set}
-use Rattle.model.specs.Lists.{tab}
+use lib.ListN.{length, take, drop, getD, set, length-take, length-drop, drop-of-length-le}
+use lib.Seq.{ext-getD, getD-take, getD-drop, take-all, take-suc, take-suc-set, drop-cons, append-snoc, set-at, length-take-le}
+use Rattle.model.specs.Lists.{pick, tab}
 use Rattle.model.specs.Store.{page16}
+use Rattle.tables.proofs.Cases.{by-test}
 
 tab-length : (n : ℕ) (f : ℕ → ℕ) → length (tab n f) ≡ n
 tab-length zero f = refl
@@ -45,3 +47,17 @@ module _ (words out : List ℕ) (at k : ℕ) (e : take k out ≡ take k (drop at
 
   pub copy-end : k ≡ 16 → length out ≤ 16 → out ≡ take 16 (drop at words)
   copy-end q h = sym (take-all 16 out h) ∙ subst (λ n. take n out ≡ take n (drop at words)) q e
+
+-- ---- words replaced one by one: the first k of d by those of l
+module _ (l d : List ℕ) (k : ℕ) {out : List ℕ} (o : out ≡ take k l ++ drop k d) where
+  pub replace-more : length l ≡ length d → k < length d → {y : List ℕ} (b : Bool) (w : ℕ) → getD l k 0 ≡ pick b w (getD d k 0)
+      → y ≡ pick b (set out k w) out → y ≡ take (k + 1) l ++ drop (k + 1) d
+  replace-more e h b w g q =
+      let m : k < length l = omega arith in
+      let c : take (suc k) l ++ drop (suc k) d ≡ take k l ++ (getD l k 0 ∷ drop (suc k) d) =
+      rw (take-suc l k 0) (append-snoc (take k l) (getD l k 0) (drop (suc k) d)) in
+      let s : length (take k l) ≡ k = length-take-le k l (omega arith) in
+      q ∙ rw (add-one, c, g, o, drop-cons d k 0) (by-test b (λ z. rw z (set-at (take k l) (getD d k 0) (drop (suc k) d) w k s)) (λ z. rw z))
+
+  pub replace-end : length l ≤ k → length d ≤ k → out ≡ l
+  replace-end h m = o ∙ rw (take-all k l h, drop-of-length-le d m) (append-nil l)

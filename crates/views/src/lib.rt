@@ -6,12 +6,15 @@ use tables::Heads;
 use tables::PastTable;
 use tables::PendingTable;
 ghost use mathlib.Core.Path.{_≡_};
-ghost use mathlib.Core.List.{List};
-ghost use Prim.Native.Nat.{ℕ, _≤_, _+_};
+ghost use mathlib.Core.Bool.{false};
+ghost use mathlib.Core.List.{List, map};
+ghost use Prim.Native.Nat.{ℕ, _≤_, _<_, _+_};
 ghost use lib.ListN.{length, take, drop, getD, set};
-ghost use Rattle.model.specs.Lists.{pick};
+ghost use lib.Dec.{leb};
+ghost use Rattle.model.specs.Lists.{either, pick, twiceB};
 ghost use Rattle.model.specs.Store.{page16, objectAt, slotOf, pendingSeen, pastSeen};
 ghost use Rattle.tables.specs.Rows.{pendings, pasts};
+ghost use Rattle.tables.specs.Lookups.{Indexed};
 ghost use Rattle.tables.specs.Contents.{contents};
 ghost use Rattle.views.specs.Views.{partOf, viewed, coversB, showsB, lay, Lookable};
 
@@ -49,14 +52,11 @@ fn covers(q: Past, v: View) -> bool
     }
 }
 
+// An entry of the view's page is shown.
 fn shows(e: Pending, v: View) -> bool
-    ensures { λ r. ⌜ r ≡ showsB v e ⌝ }
+    ensures { λ r. ⌜ r ≡ either (v .current) (leb (e .latest) (v .stamp)) ⌝ }
 {
-    if e.object / 16 == v.page {
-        if v.current { true } else { e.latest <= v.stamp }
-    } else {
-        false
-    }
+    if v.current { true } else { e.latest <= v.stamp }
 }
 
 pub fn part(ages: bool, value: u64, stamp: u64) -> u64
@@ -90,27 +90,31 @@ fn lay_past(t: &PastTable, n: usize, v: View, out: &mut [u64])
     }
 }
 
-// An entry that is shown puts its word at its slot.
-fn lay_entry(e: Pending, v: View, out: &mut [u64])
-    requires { ⌜ length (now out) ≡ 16 ⌝ }
-    ensures { λ _. ⌜ now (out .exit) ≡ pick (showsB v e) (set (now (out .entry)) (slotOf (e .object)) (partOf (v .ages) (pendingSeen e))) (now (out .entry)) ⌝ }
+// An entry of slot k that is shown puts its word there.
+fn lay_entry(e: Pending, v: View, k: usize, out: &mut [u64])
+    requires { ⌜ (k < 16) × (length (now out) ≡ 16) ⌝ }
+    ensures { λ _. ⌜ now (out .exit) ≡ pick (either (v .current) (leb (e .latest) (v .stamp))) (set (now (out .entry)) k (partOf (v .ages) (pendingSeen e))) (now (out .entry)) ⌝ }
 {
     if shows(e, v) {
-        let slot = (e.object % 16) as usize;
-        out[slot] = part(v.ages, e.value, e.latest);
+        out[k] = part(v.ages, e.value, e.latest);
     }
 }
 
-fn lay_pending(t: &PendingTable, n: usize, v: View, out: &mut [u64])
-    requires { ⌜ (n ≤ 128) × (length (pendings (now t)) ≡ 128) × (length (now out) ≡ 16) ⌝ }
+// Slot by slot, each object's entry found by the index. No two entries are of one object, so their order doesn't matter.
+fn lay_entries(t: &PendingTable, n: usize, index: &[u8], v: View, out: &mut [u64])
+    requires { ⌜ Indexed (now index) (take n (pendings (now t))) × (twiceB (map (λ e. e .object) (take n (pendings (now t)))) ≡ false) ⌝ }
+    requires { ⌜ (n ≤ 128) × (length (pendings (now t)) ≡ 128) × (v .page < 32) × (length (now out) ≡ 16) ⌝ }
     ensures { λ _. ⌜ now (out .exit) ≡ lay (showsB v) (λ e. slotOf (e .object)) (λ e. partOf (v .ages) (pendingSeen e)) (take n (pendings (now (t .entry)))) (now (out .entry)) ⌝ }
 {
-    let mut i = tables::lookups::trimmed_pending(t, n, v.page);
-    while 0 < i {
-        i -= 1;
-        let e = tables::pending_at(t, i);
-        lay_entry(e, v, out);
-        i = tables::lookups::trimmed_pending(t, i, v.page);
+    let at = 16 * (v.page as usize);
+    let mut k: usize = 0;
+    while k < 16 {
+        let row = index[at + k] as usize;
+        if row < n {
+            let e = tables::pending_at(t, row);
+            lay_entry(e, v, k, out);
+        }
+        k += 1;
     }
 }
 
@@ -127,23 +131,35 @@ pub fn lay_disk(disk: &Disk, dated: &Disk, v: View, out: &mut [u64])
     }
 }
 
-// The page as the view asks, where no copy serves.
+// The page's values, as of a stamp or current, where no copy serves. The writing stamps aren't asked for: any list may stand for them.
 pub fn look_at(
     disk: &Disk,
-    dated: &Disk,
     pending: &PendingTable,
     past: &PastTable,
     h: Heads,
-    v: View,
+    index: &[u8],
+    page: u64,
+    current: bool,
+    stamp: u64,
     out: &mut [u64],
 )
-    requires { ⌜ Lookable (now disk) (now dated) (now pending) (now past) h (v .page) ⌝ }
+    requires { ⌜ Lookable (now disk) (now disk) (now pending) (now past) h page ⌝ }
+    requires { ⌜ Indexed (now index) (take (h .pending) (pendings (now pending))) ⌝ }
     requires { ⌜ length (now out) ≡ 16 ⌝ }
-    ensures { λ _. ⌜ ((snapshots : List ℕ) (copies : List (List ℕ)) (copied : List ℕ) → now (out .exit) ≡ page16 (λ k. viewed (contents (now (disk .entry)) (now (dated .entry)) (now (pending .entry)) (now (past .entry)) snapshots copies copied h) v (objectAt (v .page) k))) ⌝ }
+    ensures { λ _. ⌜ ((dated snapshots : List ℕ) (copies : List (List ℕ)) (copied : List ℕ) → now (out .exit) ≡ page16 (λ k. viewed (contents (now (disk .entry)) dated (now (pending .entry)) (now (past .entry)) snapshots copies copied h) (record { page = page; current = current; stamp = stamp; ages = false }) (objectAt page k))) ⌝ }
 {
-    lay_disk(disk, dated, v, out);
+    let v = View {
+        page,
+        current,
+        stamp,
+        ages: false,
+    };
+    let at = 16 * (page as usize);
+    sixteen(disk, at, out);
     if !v.current {
         lay_past(past, h.past, v, out);
     }
-    lay_pending(pending, h.pending, v, out);
+    if 0 < h.pending {
+        lay_entries(pending, h.pending, index, v, out);
+    }
 }

@@ -1,6 +1,6 @@
 -- `judge_commit` says what the model says: each answer hands its tests to the law of its verdict.
 use borrow.Author.Needs.{needs}
-use Rattle.commits.proofs.Judged.{judged-late, judged-behind, judged-pending, judged-past, judged-accepted}
+use Rattle.commits.proofs.Judged.{judged-late, judged-pending, judged-past, judged-accepted}
 use Rattle.commits.proofs.judge_commit.Statement.{statement}
 use Rattle.commits.proofs.judge_commit.Tie as tie
 
@@ -10,61 +10,38 @@ later-requires c κs = search needs
 returns : tie.Need-returns
 returns c =
     let s = c .before .before .before .before in
-    judged-late (s .pre) (s .args .t) (c .later .ensures) (c .before .if1 .taken)
+    judged-late (s .pre) (s .args .t) (c .before .later .ensures) (c .if1 .taken)
 
-later-requires-2 : tie.Need-later-requires-2
-later-requires-2 c κs = search needs
+weigh-requires : tie.Need-weigh-requires
+weigh-requires c κs = search needs
+
+sub-if2 : tie.Need-sub-if2
+sub-if2 c = search needs
 
 returns-2 : tie.Need-returns-2
 returns-2 c =
-    let e = c .before .before .before in
-    let s = e .before .before .before in
-    judged-behind (s .pre) (s .args .t) (c .later2 .ensures) (e .if1 .left) (c .before .if2 .taken)
-
-count-new-requires : tie.Need-count-new-requires
-count-new-requires c κs = search needs
+    let w = c .before .before .before in
+    let s = w .before .before .before .before .before in
+    judged-pending (s .pre) (s .args .t) (w .before .before .later .ensures) (w .before .if1 .left) (w .weigh .ensures .0) (c .if2 .taken)
 
 sub-if3 : tie.Need-sub-if3
 sub-if3 c = search needs
 
 returns-3 : tie.Need-returns-3
 returns-3 c =
-    let e = c .before .before .before .before .before in
-    let s = e .before .before .before in
-    judged-pending (s .pre) (s .args .t) (e .if1 .left) (c .before .before .before .if2 .left) (c .before .before .count-new .ensures) (c .if3 .taken)
-
-count-displaced-requires : tie.Need-count-displaced-requires
-count-displaced-requires c κs = search needs
-
-sub-if4 : tie.Need-sub-if4
-sub-if4 c = search needs
+    let j = c .before .before .before in
+    let w = j .before .before .before in
+    let s = w .before .before .before .before .before in
+    judged-past (s .pre) (s .args .t) (w .before .before .later .ensures) (w .before .if1 .left) (w .weigh .ensures .0) (j .if2 .left) (w .weigh .ensures .1) (c .if3 .taken)
 
 returns-4 : tie.Need-returns-4
 returns-4 c =
     let j = c .before .before .before in
-    let e = j .before .before .before .before .before in
-    let s = e .before .before .before in
-    judged-past (s .pre) (s .args .t) (e .if1 .left) (j .before .before .before .if2 .left) (j .before .before .count-new .ensures) (j .if3 .left) (c .before .before .count-displaced .ensures) (c .if4 .taken)
-
-returns-5 : tie.Need-returns-5
-returns-5 c =
-    let j = c .before .before .before in
-    let e = j .before .before .before .before .before in
-    let s = e .before .before .before in
-    judged-accepted (s .pre) (s .args .t) (e .if1 .left) (j .before .before .before .if2 .left) (j .before .before .count-new .ensures) (j .if3 .left) (c .before .before .count-displaced .ensures) (c .if4 .left)
+    let w = j .before .before .before in
+    let s = w .before .before .before .before .before in
+    judged-accepted (s .pre) (s .args .t) (w .before .before .later .ensures) (w .before .if1 .left) (w .weigh .ensures .0) (j .if2 .left) (w .weigh .ensures .1) (c .if3 .left)
 
 pub judge-commit-spec : {M : Type 1} → statement M
 judge-commit-spec =
     tie.close
-    (tie.spec
-    later-requires
-    returns
-    later-requires-2
-    returns-2
-    count-new-requires
-    sub-if3
-    returns-3
-    count-displaced-requires
-    sub-if4
-    returns-4
-    returns-5)
+    (tie.spec later-requires returns weigh-requires sub-if2 returns-2 sub-if3 returns-3 returns-4)

@@ -16,7 +16,7 @@ add-live-requires c κs =
     let a = s .args in
     let p = s .pre .0 in
     let m = over-room p (a .past .now) (a .t) (a .value) (c .before .before .before .before .if1 .taken) (c .before .before .pending-at .ensures) (c .close .ensures) (s .pre .1 .1) in
-    ((p .snapshot-words, p .copy-rows, p .counted), (s .pre .1 .0, m))
+    ((p .snapshot-words, p .copy-rows, p .counted, p .rising), (s .pre .1 .0, m))
 
 put-pending-requires : tie.Need-put-pending-requires
 put-pending-requires c κs = search needs

@@ -1,60 +1,39 @@
--- No stamp passed is up to the bound.
-use Prim.Native.Nat.{_≤_, _-_}
-use mathlib.Core.Path.{_≡_, _∙_}
+-- The first stamp tells of all: up to the bound it is found, beyond it none behind it is up to the bound.
+use mathlib.Core.Path.{_≡_, refl, sym, _∙_}
+use mathlib.Core.List.{[]}
 use native.Mathlib.Omega.{arith}
 use lib.Dec.{leb}
-use lib.ListN.{length, drop}
-use borrow.Author.Tests.{le-leb, lt-leb}
+use lib.ListN.{length, drop, getD}
+use borrow.Author.Tests.{le-leb}
 use borrow.Author.Needs.{needs}
 use Rattle.model.specs.Lists.{kept}
-use Rattle.gossips.proofs.Ahead.{ahead-no}
+use Rattle.gossips.specs.Promises.{Skipped}
+use Rattle.gossips.proofs.Rising.{rest-none}
+use Rattle.gossips.proofs.Ahead.{ahead-end}
 use Rattle.gossips.proofs.skip.Statement.{statement}
 use Rattle.gossips.proofs.skip.Tie as tie
 
-abbrev Inv-loop : tie.InvT-loop
-Inv-loop stamps upto i k₀ k = (k ≤ length stamps) × (kept (λ s. leb s upto) (drop i stamps) ≡ kept (λ s. leb s upto) (drop k stamps))
+mul-if2 : tie.Need-mul-if2
+mul-if2 c = search needs
 
-abbrev μ-loop : tie.MeasureT-loop
-μ-loop stamps upto i k₀ k = length stamps - k
+shared-slice-read-if2 : tie.Need-shared-slice-read-if2
+shared-slice-read-if2 c = search needs
 
-loop-holds : tie.Need-loop-holds Inv-loop μ-loop
-loop-holds c = search needs
+returns : tie.Need-returns
+returns c = let a = c .before .before .before .args in record { inside = omega arith; left = refl; found = λ _. le-leb (getD (a .stamps .now) (a .i) 0) (a .upto) (omega arith) }
 
-mul-if1 : tie.Need-mul-if1 Inv-loop μ-loop
-mul-if1 c = search needs
+-- where none is left, the length is the answer
+over : (c : tie.Start) → kept (λ s. leb s (c .args .upto)) (drop (c .args .i) (c .args .stamps .now)) ≡ [] → Skipped (c .args .stamps .now) (c .args .upto) (c .args .i) (length (c .args .stamps .now))
+over c e =
+    let a = c .args in
+    record { inside = omega arith; left = e ∙ sym (ahead-end _ (a .stamps .now) (length (a .stamps .now)) (omega arith)); found = λ h. absurd (omega arith) }
 
-shared-slice-read-if1 : tie.Need-shared-slice-read-if1 Inv-loop μ-loop
-shared-slice-read-if1 c = search needs
+returns-2 : tie.Need-returns-2
+returns-2 c = let b = c .before .before .before in
+    over b (rest-none (b .args .upto) 0 (b .args .stamps .now) (b .args .i) (c .before .before .if1 .taken) (b .pre .1) (c .if2 .left))
 
-returns : tie.Need-returns Inv-loop μ-loop
-returns c = let v = c .before .before .before .loop in record { inside = v .inv .0; left = v .inv .1; found = λ _. le-leb _ _ (c .if1 .taken) }
-
-add-k : tie.Need-add-k Inv-loop μ-loop
-add-k c = search needs
-
-loop-less : tie.Need-loop-less Inv-loop μ-loop
-loop-less c = search needs
-
-loop-again : tie.Need-loop-again Inv-loop μ-loop
-loop-again c = let a = c .before .before .before .before .args in
-    let v = c .before .before .before .loop in
-    let e = ahead-no (λ s. leb s (a .upto)) (a .stamps .now) (v .k) (c .before .before .loop-test .taken) (lt-leb _ _ (c .if1 .left)) in
-    (omega arith, v .inv .1 ∙ e)
-
-returns-2 : tie.Need-returns-2 Inv-loop μ-loop
-returns-2 c = let v = c .before .loop in record { inside = v .inv .0; left = v .inv .1; found = λ h. absurd (omega arith) }
+returns-3 : tie.Need-returns-3
+returns-3 c = over (c .before) (ahead-end _ (c .before .args .stamps .now) (c .before .args .i) (c .if1 .left))
 
 pub skip-spec : {M : Type 1} → statement M
-skip-spec =
-    tie.close
-    (tie.spec
-    Inv-loop
-    μ-loop
-    loop-holds
-    mul-if1
-    shared-slice-read-if1
-    returns
-    add-k
-    loop-less
-    loop-again
-    returns-2)
+skip-spec = tie.close (tie.spec mul-if2 shared-slice-read-if2 returns returns-2 returns-3)

@@ -15,14 +15,14 @@ use Rattle.reads.proofs.show_page.Tie as tie
 abbrev Serves : tie.Start → Found → Type 0
 Serves c f = let a = c .args in Serving (a .page) (a .s) (a .h .copies) (copyHeads (a .copies .now)) f
 
-found : (c : tie.After-i) → Serves (c .before .before .before .before) (At (c .i .given .0 .0))
-found c = subst (Serves (c .before .before .before .before)) (c .i .given .1) (c .before .before .serving .ensures)
+found : (c : tie.After-i) → Serves (c .before .before .before .before .before) (At (c .i .given .0 .0))
+found c = subst (Serves (c .before .before .before .before .before)) (c .i .given .1) (c .before .before .serving .ensures)
 
-none : (c : tie.After-enum-told) → Serves (c .before .before .before .before) Nothing
-none c = subst (Serves (c .before .before .before .before)) (c .enum-told .given .1) (c .before .before .serving .ensures)
+none : (c : tie.After-enum-told) → Serves (c .before .before .before .before .before) Nothing
+none c = subst (Serves (c .before .before .before .before .before)) (c .enum-told .given .1) (c .before .before .serving .ensures)
 
 below : (c : tie.After-i) → c .i .given .0 .0 < 128
-below c = lt-of-lt-of-le (found c .inside) (c .before .before .before .before .pre .1 .0)
+below c = lt-of-lt-of-le (found c .inside) (c .before .before .before .before .before .pre .1 .1 .0)
 
 serving-requires : tie.Need-serving-requires
 serving-requires c κs = search needs
@@ -34,7 +34,7 @@ mul-sixteen : tie.Need-mul-sixteen
 mul-sixteen c = omega (arith, below (c .before .before))
 
 sixteen-requires : tie.Need-sixteen-requires
-sixteen-requires c κs = (omega (arith, below (c .before .before .before), c .before .before .before .before .before .before .before .pre .1 .2), c .before .before .before .before .before .before .before .pre .1 .3)
+sixteen-requires c κs = (omega (arith, below (c .before .before .before), c .before .before .before .before .before .before .before .before .pre .1 .1 .2), c .before .before .before .before .before .before .before .before .pre .1 .1 .3)
 
 enum-told : tie.Need-enum-told
 enum-told c = search needs
@@ -46,22 +46,22 @@ same-length : tie.Need-same-length
 same-length c = search needs
 
 returns : tie.Need-returns
-returns c snapshots =
-    let a = c .before .before .before .before .before .before .before .before .before .before .args in
-    let p = c .before .before .before .before .before .before .before .before .before .before .pre .1 in
+returns c dated snapshots =
+    let a = c .before .before .before .before .before .before .before .before .before .before .before .args in
+    let p = c .before .before .before .before .before .before .before .before .before .before .before .pre .1 .1 in
     c .before .before .sixteen .ensures
-    ∙ shown-served (a .disk .now) (a .dated .now) (a .pending .now) (a .past .now) snapshots (a .copies .now) (a .copied .now) (a .h) (a .page) (a .s) (p .0) (p .1) (p .2)
+    ∙ shown-served (a .disk .now) dated (a .pending .now) (a .past .now) snapshots (a .copies .now) (a .copied .now) (a .h) (a .page) (a .s) (p .0) (p .1) (p .2)
     (c .before .before .before .before .before .before .i .given .0 .0) (found (c .before .before .before .before .before .before))
 
 same-length-2 : tie.Need-same-length-2
 same-length-2 c = search needs
 
 returns-2 : tie.Need-returns-2
-returns-2 c snapshots =
-    let a = c .before .before .before .before .before .before .before .before .args in
-    let p = c .before .before .before .before .before .before .before .before .pre .1 in
-    c .before .before .look-at .ensures snapshots (a .copies .now) (a .copied .now)
-    ∙ shown-looked (a .disk .now) (a .dated .now) (a .pending .now) (a .past .now) snapshots (a .copies .now) (a .copied .now) (a .h) (a .page) (a .s) (p .0) (p .1) (none (c .before .before .before .before))
+returns-2 c dated snapshots =
+    let a = c .before .before .before .before .before .before .before .before .before .args in
+    let p = c .before .before .before .before .before .before .before .before .before .pre .1 .1 in
+    c .before .before .look-at .ensures dated snapshots (a .copies .now) (a .copied .now)
+    ∙ shown-looked (a .disk .now) dated (a .pending .now) (a .past .now) snapshots (a .copies .now) (a .copied .now) (a .h) (a .page) (a .s) (p .0) (p .1) (none (c .before .before .before .before))
 
 pub show-page-spec : {M : Type 1} → statement M
 show-page-spec =

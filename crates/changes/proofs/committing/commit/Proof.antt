@@ -2,9 +2,10 @@
 use borrow.Author.Needs.{needs}
 use borrow.Author.Tests.{not-true, not-false, eqb-true}
 use native.Mathlib.Omega.{arith}
-use Prim.Native.Nat.{_≤_}
+use Prim.Native.Nat.{ℕ, _≤_}
 use mathlib.Core.Path.{_≡_, refl, _∙_, sym}
 use mathlib.Core.Bool.{Bool, true, false}
+use mathlib.Core.List.{List}
 use lib.ListN.{length, take}
 use lib.Dec.{eqb}
 use Rattle.model.specs.Answers.{codeOf}
@@ -35,8 +36,11 @@ back2 c = c .before .before .before
 abbrev back3 : tie.Else3 → tie.Else2
 back3 c = c .before .before
 
+abbrev asked : tie.After-settled → tie.Else3
+asked c = c .before .before .before .before .before
+
 abbrev back4 : tie.Else4 → tie.Else3
-back4 c = c .before .before .before .before .before .before .before .before .before .before
+back4 c = asked (c .before .before)
 
 abbrev start1 : tie.Else1 → tie.Start
 start1 c = c .before .before .before .before .before .before .before .before .before .before .before .before .before .before .before .before
@@ -77,7 +81,7 @@ whole c = found (c .before) ∙ c .if1 .left
 rows : (c : tie.Else1) → let a = start1 c .args in Laid (a .disk .now) (a .dated .now) (a .pending .now) (a .past .now) (a .snapshots .now) (a .copies .now) (a .copied .now)
 rows c = c .before .before .before .before .before .laid .ensures
 
-sound : (c : tie.Else1) → let a = start1 c .args in Undamaged (a .pending .now) (a .copies .now) (a .h)
+sound : (c : tie.Else1) → let a = start1 c .args in Undamaged (a .pending .now) (a .snapshots .now) (a .copies .now) (a .h)
 sound c =
     let a = start1 c .args in
     undamaged (a .disk .now) (a .dated .now) (a .pending .now) (a .past .now) (a .snapshots .now) (a .copies .now) (a .copied .now) (a .h) (rows c) (whole c)
@@ -127,55 +131,55 @@ passed : (c : tie.Else3) → let a = start3 c .args in Passed (store (start3 c))
 passed c = record { whole = whole (back2 (back3 c)); formed = made-shaped (back3 c); once = made-twice (c .before) ∙ c .if3 .left }
 
 -- the index tells the row of each object's entry
-indexed : (c : tie.Else3) → let a = start3 c .args in Indexed (c .before .before .before .before .before .before .damaged-or-indexed .last .1 .1 .1 .1 .1 .0) (take (a .h .pending) (pendings (a .pending .now)))
+abbrev index : tie.Else3 → List ℕ
+index c = back2 (back3 c) .before .damaged-or-indexed .last .1 .1 .1 .1 .1 .0
+
+indexed : (c : tie.Else3) → let a = start3 c .args in Indexed (index c) (take (a .h .pending) (pendings (a .pending .now)))
 indexed c = let e = back2 (back3 c) in e .before .damaged-or-indexed .ensures .1 (e .if1 .left)
 
-slice-aggregate-rows-by-index : tie.Need-slice-aggregate-rows-by-index
-slice-aggregate-rows-by-index c = sym (indexed (c .before) .objects-in)
-
-rows-by-index-requires : tie.Need-rows-by-index-requires
-rows-by-index-requires c κs =
-    let e = back3 (c .before .before) in
-    (indexed (c .before .before) .objects-in, shaped-low _ (fine e .shaped), short e, refl)
+slice-aggregate-judge-commit : tie.Need-slice-aggregate-judge-commit
+slice-aggregate-judge-commit c = sym (indexed (c .before .before) .objects-in)
 
 -- the judge and the writer have what they ask
-ready : (c : tie.After-rows-by-index) → let a = start3 (c .before .before .before) .args in Ready (a .pending .now) (a .snapshots .now) (a .copies .now) (a .h) (a .objects .now) (c .rows-by-index .last .1 .1 .0)
+ready : (c : tie.Else3) → let a = start3 c .args in Ready (a .pending .now) (a .snapshots .now) (a .copies .now) (a .h) (a .objects .now) (index c)
 ready c =
-    let e = back3 (c .before .before .before) in
+    let e = back3 c in
     let l = rows (back2 e) in
+    let u = sound (back2 e) in
     record {
       pending-rows = l .pending-rows;
       snapshot-words = l .snapshot-words;
       copy-rows = l .copy-rows;
-      counted = sound (back2 e) .counted;
+      counted = u .counted;
+      rising = u .rising;
       short = short e;
-      once = sym (c .before .before .before .before .named-twice .ensures) ∙ c .before .before .before .if3 .left;
-      room-for-rows = c .rows-by-index .ensures .1;
-      found = c .rows-by-index .ensures .0 _ (indexed (c .before .before .before));
+      once = sym (c .before .named-twice .ensures) ∙ c .if3 .left;
+      in-range = shaped-low _ (fine e .shaped);
+      indexed = indexed c;
     }
 
 judge-commit-requires : tie.Need-judge-commit-requires
 judge-commit-requires c κs = ready (c .before .before)
 
 mul-settled : tie.Need-mul-settled
-mul-settled c = omega (arith, short (c .before .before .before .before .before .before .before .before .before))
+mul-settled c = omega (arith, short (back3 (c .before .before .before .before)))
 
 add-settled : tie.Need-add-settled
-add-settled c = omega (arith, short (c .before .before .before .before .before .before .before .before .before))
+add-settled c = omega (arith, short (back3 (c .before .before .before .before)))
 
 settled-requires : tie.Need-settled-requires
-settled-requires c κs = (omega (arith, short (c .before .before .before .before .before .before .before .before .before)), fine (c .before .before .before .before .before .before .before .before .before) .placed)
+settled-requires c κs = let e = back3 (c .before .before .before .before) in (omega (arith, short e), fine e .placed)
 
 -- the verdict and the answer are the model's
-judged : (c : tie.After-settled) → let s = start3 (c .before .before .before .before .before .before .before .before) in c .before .before .judge-commit .result ≡ judge (store s) (made s)
+judged : (c : tie.After-settled) → let s = start3 (asked c) in c .before .before .judge-commit .result ≡ judge (store s) (made s)
 judged c =
-    let a = start3 (c .before .before .before .before .before .before .before .before) .args in
-    c .before .before .judge-commit .ensures (a .disk .now) (a .dated .now) (a .past .now) (a .copied .now) (a .values .now) (sym (even (c .before .before .before .before .before .before .before .before .before .before)))
+    let a = start3 (asked c) .args in
+    c .before .before .judge-commit .ensures (a .disk .now) (a .dated .now) (a .past .now) (a .copied .now) (a .values .now) (sym (even (back3 (asked c))))
 
-settles : (c : tie.After-settled) → let s = start3 (c .before .before .before .before .before .before .before .before) in c .settled .result ≡ roomed (c .before .before .judge-commit .result) (s .args .journal .now) (s .args .used .at) (made s)
+settles : (c : tie.After-settled) → let s = start3 (asked c) in c .settled .result ≡ roomed (c .before .before .judge-commit .result) (s .args .journal .now) (s .args .used .at) (made s)
 settles c =
-    let s = start3 (c .before .before .before .before .before .before .before .before) in
-    c .settled .ensures (made s) (commit-length (s .args .objects .now) (s .args .values .now) (even (c .before .before .before .before .before .before .before .before .before .before)) (s .args .t))
+    let s = start3 (asked c) in
+    c .settled .ensures (made s) (commit-length (s .args .objects .now) (s .args .values .now) (even (back3 (asked c))) (s .args .t))
 
 code-requires : tie.Need-code-requires
 code-requires c κs = search needs
@@ -184,7 +188,7 @@ same-length-3 : tie.Need-same-length-3
 same-length-3 c = search needs
 
 returns-4 : tie.Need-returns-4
-returns-4 c = left-refused (passed (c .before .before .before .before .before .before .before .before .before .before)) (judged (c .before .before)) (settles (c .before .before)) (λ z. c .if4 .taken (c .before .code .ensures ∙ z))
+returns-4 c = left-refused (passed (asked (c .before .before))) (judged (c .before .before)) (settles (c .before .before)) (λ z. c .if4 .taken (c .before .code .ensures ∙ z))
 
 -- code 0: the verdict was accepted, and the record fits
 zero : (c : tie.Else4) → codeOf (c .before .before .settled .result) ≡ 0
@@ -198,7 +202,7 @@ apply-commit-requires c κs =
     let e = c .before .before .before in
     let a = start3 (back4 e) .args in
     let l = sym (even (back3 (back4 e))) in (
-      ready (e .before .before .before .before .before .before .before),
+      ready (back4 e),
       (
         rows (back2 (back3 (back4 e))) .past-rows,
         l,
@@ -218,7 +222,7 @@ returns-5 : tie.Need-returns-5
 returns-5 c =
     let e = c .before .before .before .before .before .before .before .before in
     let a = start3 (back4 e) .args in
-    left-done (passed (back4 e)) (judged (e .before .before)) (settles (e .before .before)) (zero e) (c .before .before .before .before .apply-commit .ensures .contains (a .disk .now) (a .dated .now) (a .copied .now)) (c .before .before .append-commit .ensures)
+    left-done (passed (back4 e)) (judged (e .before .before)) (settles (e .before .before)) (zero e) (c .before .before .before .before .apply-commit .ensures .0 .contains (a .disk .now) (a .dated .now) (a .copied .now)) (c .before .before .append-commit .ensures)
 
 pub commit-spec : {M : Type 1} → statement M
 commit-spec =
@@ -233,8 +237,7 @@ commit-spec =
     named-twice-requires
     same-length-2
     returns-3
-    slice-aggregate-rows-by-index
-    rows-by-index-requires
+    slice-aggregate-judge-commit
     judge-commit-requires
     mul-settled
     add-settled

@@ -5,16 +5,19 @@ use native.Mathlib.Omega.{arith}
 use Prim.Native.Nat.{_≤_}
 use mathlib.Core.Path.{_≡_, refl, _∙_, sym}
 use mathlib.Core.Bool.{true, false}
-use lib.ListN.{length}
+use lib.ListN.{length, take}
 use Rattle.model.specs.Answers.{codeOf}
+use Rattle.model.specs.Lists.{risingFrom}
 use Rattle.model.specs.Store.{Store}
 use Rattle.model.specs.Damage.{damaged}
 use Rattle.model.specs.Changes.{Change, gossip}
 use Rattle.model.specs.Judgement.{stampsShaped, judge}
 use Rattle.model.specs.Calls.{journalShaped, roomed}
 use Rattle.tables.specs.Contents.{contents, Laid}
+use Rattle.tables.proofs.Rising.{rises-low}
+use Rattle.gossips.proofs.Rising.{known-rises}
 use Rattle.changes.proofs.Undamaged.{Undamaged, undamaged}
-use Rattle.changes.proofs.Shapes.{shape-second, shape-third, Formed, formed, stamps-short}
+use Rattle.changes.proofs.Shapes.{shape-second, shape-third, Formed, formed, stamps-short, stamps-rise}
 use Rattle.changes.proofs.Rooms.{Taken, gossip-room}
 use Rattle.changes.proofs.Outcomes.{left-damaged, left-shape, Passed, left-refused, taken, left-done}
 use Rattle.changes.proofs.gossiping.gossip.Statement.{statement}
@@ -66,7 +69,7 @@ whole c = found (c .before) ∙ c .if1 .left
 rows : (c : tie.Else1) → let a = start1 c .args in Laid (a .disk .now) (a .dated .now) (a .pending .now) (a .past .now) (a .snapshots .now) (a .copies .now) (a .copied .now)
 rows c = c .before .before .before .before .laid .ensures
 
-sound : (c : tie.Else1) → let a = start1 c .args in Undamaged (a .pending .now) (a .copies .now) (a .h)
+sound : (c : tie.Else1) → let a = start1 c .args in Undamaged (a .pending .now) (a .snapshots .now) (a .copies .now) (a .h)
 sound c =
     let a = start1 c .args in
     undamaged (a .disk .now) (a .dated .now) (a .pending .now) (a .past .now) (a .snapshots .now) (a .copies .now) (a .copied .now) (a .h) (rows c) (whole c)
@@ -103,10 +106,13 @@ fine c = formed true (start3 c .args .journal .now) _ _ (passed c .formed)
 short : (c : tie.Else3) → length (start3 c .args .stamps .now) ≤ 16
 short c = let a = start3 c .args in stamps-short (a .prev) (a .curr) (a .stamps .now) (fine c .shaped)
 
+rise : (c : tie.Else3) → let a = start3 c .args in risingFrom (a .prev) (a .stamps .now) ≡ true
+rise c = let a = start3 c .args in stamps-rise (a .prev) (a .curr) (a .stamps .now) (fine c .shaped)
+
 judge-gossip-requires : tie.Need-judge-gossip-requires
 judge-gossip-requires c κs =
     let e = back2 (back3 (c .before)) in
-    (rows e .snapshot-words, sound e .counted .snapshot-count, short (c .before))
+    (rows e .snapshot-words, sound e .counted .snapshot-count, short (c .before), rise (c .before))
 
 mul-settled : tie.Need-mul-settled
 mul-settled c = omega (arith, short (c .before .before .before))
@@ -153,6 +159,8 @@ apply-gossip-requires c κs =
       counted = u .counted;
       pages-in = u .pages-in;
       room = gossip-room (a .disk .now) (a .dated .now) (a .pending .now) (a .past .now) (a .snapshots .now) (a .copies .now) (a .copied .now) (a .h) (a .prev) (a .curr) (a .stamps .now) (sym (judged (e .before .before)) ∙ accepted e .accepted);
+      stamps-rise = rises-low (a .prev) 0 (a .stamps .now) (rise (back4 e)) (omega arith);
+      rising = known-rises (a .h .horizon) (a .prev) (take (a .h .snapshots) (a .snapshots .now)) (a .stamps .now) (u .rising) (u .known) (rise (back4 e));
     }
 
 append-gossip-requires : tie.Need-append-gossip-requires

@@ -1,70 +1,58 @@
--- The copies so far, with those of the snapshots ahead, are all of them.
-use Prim.Native.Nat.{_≤_, _+_, _-_}
-use mathlib.Core.List.{_++_, map}
-use mathlib.Core.Path.{_≡_}
+-- Behind the copies that there are stands for each listed snapshot its head, with the page as of it.
+use Prim.Native.Nat.{_+_, _≤_}
+use mathlib.Core.Bool.{false}
+use mathlib.Core.Path.{sym, _∙_}
 use native.Mathlib.Omega.{arith}
-use lib.ListN.{length, take, drop}
+use lib.ListN.{length, take}
+use lib.Seq.{length-take-le}
 use borrow.Author.Needs.{needs}
 use Rattle.tables.specs.Rows.{copyHeads, copiesOf}
+use Rattle.tables.proofs.Copies.{copies-of-length}
+use Rattle.shares.specs.Many.{pageAt}
 use Rattle.flushes.specs.Parts.{copyIn}
-use Rattle.flushes.proofs.Copying.{copy-start, copy-more, copy-end}
+use Rattle.flushes.proofs.Copying.{put-start, put-end, copies-behind}
 use Rattle.flushes.proofs.archive.archive.Statement.{statement}
 use Rattle.flushes.proofs.archive.archive.Tie as tie
 
-abbrev Inv-loop : tie.InvT-loop
-Inv-loop disk dated pending past copies₀ copied₀ h page share row-numbers entry-numbers due dues i₀ copies copied i = (i ≤ dues) × (length (copyHeads copies) ≡ 128) × (length copied ≡ 2048)
-    × (take (h .copies + i) (copiesOf (copyHeads copies) copied) ++ map (copyIn disk dated pending past h page) (drop i (take dues due)) ≡ take (h .copies) (copiesOf (copyHeads copies₀) copied₀) ++ map (copyIn disk dated pending past h page) (take dues due))
+returns : tie.Need-returns
+returns c = let s = c .before in
+    let a = s .args in
+    let p = s .pre .1 .1 .0 in
+    let f = copyIn (a .disk .now) (a .dated .now) (a .pending .now) (a .past .now) (a .h) (a .page) in
+    let cs = copiesOf (copyHeads (a .copies .now)) (a .copied .now) in
+    let b : a .h .copies + 0 ≤ length cs = rw (copies-of-length (copyHeads (a .copies .now)) (a .copied .now)) (omega arith) in
+    (put-end f (a .due .now) (a .dues) cs (a .h .copies) 0 (put-start f (a .due .now) (a .dues) cs (a .h .copies)) (c .if1 .taken) b, (p .0, p .1))
 
-abbrev μ-loop : tie.MeasureT-loop
-μ-loop disk dated pending past copies₀ copied₀ h page share row-numbers entry-numbers due dues i₀ copies copied i = dues - i
+put-heads-requires : tie.Need-put-heads-requires
+put-heads-requires c κs = search needs
 
-loop-holds : tie.Need-loop-holds Inv-loop μ-loop
-loop-holds c = let a = c .args in
-    (search needs, search needs, search needs, copy-start (copiesOf (copyHeads (a .copies .now)) (a .copied .now)) (map (copyIn (a .disk .now) (a .dated .now) (a .pending .now) (a .past .now) (a .h) (a .page)) (take (a .dues) (a .due .now))) (a .h .copies))
+slice-aggregate-look-at-all : tie.Need-slice-aggregate-look-at-all
+slice-aggregate-look-at-all c = let s = c .before .before .before .before .before in
+    sym (length-take-le (s .args .dues) (s .args .due .now) (omega arith))
 
-mul-s : tie.Need-mul-s Inv-loop μ-loop
-mul-s c = search needs
+mul-look-at-all : tie.Need-mul-look-at-all
+mul-look-at-all c = search needs
 
-element-copy-out-s : tie.Need-element-copy-out-s Inv-loop μ-loop
-element-copy-out-s c = search needs
+look-at-all-requires : tie.Need-look-at-all-requires
+look-at-all-requires c κs = let s = c .before .before .before .before .before .before .before in
+    let p = s .pre .1 .1 in
+    (s .pre .0, (s .pre .1 .0, (p .1, omega (arith, p .0 .1, p .0 .2, p .0 .4, length-take-le (s .args .dues) (s .args .due .now) (omega arith)))))
 
-add-at : tie.Need-add-at Inv-loop μ-loop
-add-at c = search needs
-
-put-whole-requires : tie.Need-put-whole-requires Inv-loop μ-loop
-put-whole-requires c κs = let s = c .before .before .before .before .before .before in
-    (s .pre .0, (s .pre .1 .0, (omega arith, search needs, search needs)))
-
-add-i : tie.Need-add-i Inv-loop μ-loop
-add-i c = search needs
-
-loop-less : tie.Need-loop-less Inv-loop μ-loop
-loop-less c = search needs
-
-loop-again : tie.Need-loop-again Inv-loop μ-loop
-loop-again c = let b = c .before .before .before .before .before .before in
-    let a = b .before .args in
-    let v = b .loop in
-    let e = c .put-whole .ensures in
-    (omega arith, e .copy-rows, e .copied-words, copy-more (copyIn (a .disk .now) (a .dated .now) (a .pending .now) (a .past .now) (a .h) (a .page)) (a .due .now) (a .dues) (v .i) (copyHeads (v .copies)) (v .copied) (a .h .copies) (v .inv .3) (c .before .before .before .before .before .loop-test .taken) (omega arith) (omega arith) (e .all))
-
-returns : tie.Need-returns Inv-loop μ-loop
-returns c = let v = c .before .loop in
-    let a = c .before .before .args in
-    (copy-end (copyIn (a .disk .now) (a .dated .now) (a .pending .now) (a .past .now) (a .h) (a .page)) (a .due .now) (a .dues) (v .i) (copyHeads (v .copies)) (v .copied) (a .h .copies) (v .inv .3) (omega arith) (omega arith), (v .inv .1, v .inv .2))
+returns-2 : tie.Need-returns-2
+returns-2 c = let s = c .before .before .before .before .before .before .before .before in
+    let a = s .args in
+    let p = s .pre .1 .1 .0 in
+    let e = c .before .before .before .before .before .put-heads .ensures in
+    let q = c .look-at-all .ensures in
+    (copies-behind (a .page) (pageAt (a .disk .now) (a .dated .now) (a .pending .now) (a .past .now) (a .h) (a .page) false) (take (a .dues) (a .due .now)) (a .dues) (a .h .copies) (copyHeads (a .copies .now)) (copyHeads (c .before .before .before .before .before .put-heads .last .0)) (a .copied .now) _ (omega arith) (omega arith) (e .0) q, (e .1, q .size ∙ p .1))
 
 pub archive-spec : {M : Type 1} → statement M
 archive-spec =
     tie.close
     (tie.spec
-    Inv-loop
-    μ-loop
-    loop-holds
-    mul-s
-    element-copy-out-s
-    add-at
-    put-whole-requires
-    add-i
-    loop-less
-    loop-again
-    returns)
+    returns
+    put-heads-requires
+    slice-aggregate-look-at-all
+    mul-look-at-all
+    look-at-all-requires
+    returns-2)

@@ -1,101 +1,193 @@
--- The snapshots listed so far, with the due ones ahead, are the due ones of all; and a lull is known.
-use Prim.Native.Nat.{_≤_, _-_}
-use mathlib.Core.List.{_++_}
-use mathlib.Core.Path.{_≡_, refl, sym, _∙_}
+-- None is due up to the mark; then those between; none from the newest stamp on; and the last one by the current ages.
+use Prim.Native.Nat.{ℕ, _≤_, _<_, _+_, _-_}
+use mathlib.Core.List.{List, [], _++_}
+use mathlib.Core.Path.{_≡_, sym, _∙_}
 use native.Mathlib.Omega.{arith}
-use lib.ListN.{length, take, drop, length-set}
+use lib.ListN.{length, take, drop, getD, set, length-set}
+use lib.Seq.{length-take-le}
 use borrow.Author.Needs.{needs}
-use Rattle.flushes.specs.Parts.{seenIn, duesSeen, Watched}
-use Rattle.flushes.proofs.Listing.{list-yes, list-no, list-end}
+use Rattle.model.specs.Store.{Store}
+use Rattle.shares.proofs.Orders.{rising-at, part-ordered, first-inside, first-behind}
+use Rattle.flushes.specs.Parts.{seenIn, dueSeen, duesSeen}
+use Rattle.flushes.proofs.Listing.{none-due, dues-to-last, due-seen, next-none, list-yes, list-no, list-end}
 use Rattle.flushes.proofs.dues.list_dues.Statement.{statement}
 use Rattle.flushes.proofs.dues.list_dues.Tie as tie
 
-abbrev Inv-loop : tie.InvT-loop
-Inv-loop disk dated pending past snapshots h page share row-numbers entry-numbers marked due₀ newest lull₀ i₀ k₀ due lull i k =
-    (k ≤ i) × (i ≤ h .snapshots) × (length due ≡ 64) × Watched dated pending past h page lull newest
-    × (take k due ++ duesSeen (seenIn disk dated pending past h) page marked (drop i (take (h .snapshots) snapshots)) ≡ duesSeen (seenIn disk dated pending past h) page marked (take (h .snapshots) snapshots))
+abbrev start : tie.After-some-beyond → tie.Start
+start c = c .before .before .before .before .before .before .before .before .before .before .before .before .before .before .before .before .before .before
 
-abbrev μ-loop : tie.MeasureT-loop
-μ-loop disk dated pending past snapshots h page share row-numbers entry-numbers marked due₀ newest lull₀ i₀ k₀ due lull i k =
-    h .snapshots - i
+abbrev store : tie.After-some-beyond → Store
+store c = let a = start c .args in seenIn (a .disk .now) (a .dated .now) (a .pending .now) (a .past .now) (a .h)
 
-newest-on-disk-requires : tie.Need-newest-on-disk-requires Inv-loop μ-loop
-newest-on-disk-requires c κs = (c .pre .0 .stamp-words, c .pre .0 .in-range)
+-- what is listed before the last snapshot, in which list, and that there are snapshots
+abbrev count : tie.After-some-beyond → ℕ
+count c = c .before .before .before .before .before .list-between .result
 
-no-lull-requires : tie.Need-no-lull-requires Inv-loop μ-loop
-no-lull-requires c κs = search needs
+abbrev list : tie.After-some-beyond → List ℕ
+list c = c .before .before .before .before .before .list-between .last .1 .1 .1 .1 .1 .1 .1 .1 .1 .1 .1 .1 .0
 
-loop-holds : tie.Need-loop-holds Inv-loop μ-loop
-loop-holds c = (omega arith, omega arith, c .before .before .pre .1 .1 .2, record { still = c .no-lull .ensures; settled = c .before .newest-on-disk .ensures }, refl)
+some : (c : tie.After-some-beyond) → let n = start c .args .h .snapshots in n - 1 + 1 ≡ n
+some c = omega (arith, c .before .before .before .before .before .before .before .before .before .before .before .before .before .before .before .before .if1 .left)
 
-find-at-requires : tie.Need-find-at-requires Inv-loop μ-loop
-find-at-requires c κs = let b = c .before .before in
-    let s = b .before .before .before in
-    (s .pre .0, (s .pre .1 .0, ((c .if1 .taken, s .pre .1 .1 .0, s .pre .1 .1 .1), b .loop .inv .3)))
+whole : (c : tie.After-some-beyond) → start c .args .h .snapshots ≤ length (start c .args .snapshots .now)
+whole c = let k = start c .pre .1 .1 in omega (arith, k .0, k .1)
 
-mul-s : tie.Need-mul-s Inv-loop μ-loop
-mul-s c = search needs
+few : (c : tie.After-some-beyond) → count c < 64
+few c =
+    let a = start c .args in
+    let k = start c .pre .1 .1 in
+    omega (arith, k .0, c .before .before .before .before .before .list-between .ensures .0 .0, first-inside (a .h .snapshots - 1) (a .snapshots .now) (omega (arith, whole c)) (c .before .before .before .before .before .before .before .first-from2 .ensures))
 
-element-copy-out-s : tie.Need-element-copy-out-s Inv-loop μ-loop
-element-copy-out-s c = search needs
+-- those listed, with the last snapshot if it is due, are all
+listed : (c : tie.After-some-beyond)
+    → let a = start c .args in
+    let l = a .snapshots .now in
+    let n = a .h .snapshots in
+    take (count c) (list c) ++ duesSeen (store c) (a .page) (a .marked) (drop (n - 1) (take n l)) ≡ duesSeen (store c) (a .page) (a .marked) (take n l)
+listed c =
+    let s = start c in
+    let a = s .args in
+    let l = a .snapshots .now in
+    let n = a .h .snapshots in
+    let w = c .before .before .before .before .before .before .before .before .before .before .before .newest-up-to .ensures in
+    let f = c .before .before .before .before .before .before .before .before .before .first-from .ensures in
+    let g = c .before .before .before .before .before .before .before .first-from2 .ensures in
+    let i : n - 1 ≤ length l = omega (arith, whole c) in
+    let y = first-inside (n - 1) l i g in
+    dues-to-last (a .disk .now) (a .dated .now) (a .pending .now) (a .past .now) (a .h) (a .page) (s .pre .0) l n (n - 1) (some c) (whole c) (s .pre .1 .1 .3) (a .marked) (w .0) (w .1) f g (take (count c) (list c))
+    (c .before .before .before .before .before .list-between .ensures .1 (a .marked) (λ j q r. omega (arith, first-behind (n - 1) l i f j q (omega arith))))
 
-add-i : tie.Need-add-i Inv-loop μ-loop
-add-i c = search needs
+-- the current ages tell whether the last one is due
+told : (c : tie.After-some-beyond)
+    → let a = start c .args in
+    let l = a .snapshots .now in
+    let n = a .h .snapshots in
+    c .some-beyond .result ≡ dueSeen (store c) (a .page) (a .marked) (getD l (n - 1) 0) (drop (n - 1 + 1) (take n l))
+told c =
+    let a = start c .args in
+    let l = a .snapshots .now in
+    let n = a .h .snapshots in
+    c .some-beyond .ensures
+    ∙ due-seen (store c) (a .page) (a .marked) (getD l (n - 1) 0) (drop (n - 1 + 1) (take n l)) (c .before .before .before .before .before .before .before .before .before .before .before .before .if2 .left) (next-none (a .page) l n (n - 1 + 1) (omega arith)) (c .before .before .before .look-at .ensures [] [] [])
 
-mul-due : tie.Need-mul-due Inv-loop μ-loop
-mul-due c = search needs
+returns : tie.Need-returns
+returns c = let s = c .before .before in
+    let a = s .args in
+    let z = c .if1 .taken in
+    (none-due (seenIn (a .disk .now) (a .dated .now) (a .pending .now) (a .past .now) (a .h)) (a .page) (a .marked) (a .snapshots .now) (a .h .snapshots) (omega arith) (λ i h. absurd (omega arith)), omega arith, s .pre .1 .1 .2)
 
-element-write-due : tie.Need-element-write-due Inv-loop μ-loop
-element-write-due c = search needs
+sub-end : tie.Need-sub-end
+sub-end c = search needs
 
-add-k : tie.Need-add-k Inv-loop μ-loop
-add-k c = search needs
+mul-last : tie.Need-mul-last
+mul-last c = search needs
 
-loop-less : tie.Need-loop-less Inv-loop μ-loop
-loop-less c = search needs
+shared-slice-read-last : tie.Need-shared-slice-read-last
+shared-slice-read-last c = search needs
 
-loop-again : tie.Need-loop-again Inv-loop μ-loop
-loop-again c = let b = c .before .before .before .before .before .before in
-    let a = b .before .before .before .args in
-    let v = b .loop in
-    let f = c .before .before .before .find-at .ensures in
-    let e = sym (f .0) ∙ c .if2 .taken in
-    (omega arith, omega arith, simp length-set (v .inv .2), f .1, list-yes (seenIn (a .disk .now) (a .dated .now) (a .pending .now) (a .past .now) (a .h)) (a .page) (a .marked) (a .snapshots .now) (a .h .snapshots) (v .i) (v .due) (v .k) (v .inv .4) (c .before .before .before .before .if1 .taken) (omega arith) e (omega arith))
+returns-2 : tie.Need-returns-2
+returns-2 c = let s = c .before .before .before .before .before .before in
+    let a = s .args in
+    let l = a .snapshots .now in
+    let n = a .h .snapshots in
+    let k = s .pre .1 .1 in
+    let z = c .before .before .before .before .if1 .left in
+    (none-due (seenIn (a .disk .now) (a .dated .now) (a .pending .now) (a .past .now) (a .h)) (a .page) (a .marked) l n (omega arith) (λ i h. omega (arith, c .if2 .taken, rising-at n l (k .3) (omega arith) i (n - 1) (omega arith) (omega arith))), omega arith, k .2)
 
-loop-less-2 : tie.Need-loop-less-2 Inv-loop μ-loop
-loop-less-2 c = search needs
+newest-up-to-requires : tie.Need-newest-up-to-requires
+newest-up-to-requires c κs = search needs
 
-loop-again-2 : tie.Need-loop-again-2 Inv-loop μ-loop
-loop-again-2 c = let b = c .before .before .before .before .before .before in
-    let a = b .before .before .before .args in
-    let v = b .loop in
-    let f = c .before .before .before .find-at .ensures in
-    let e = sym (f .0) ∙ c .if2 .left in
-    (omega arith, omega arith, v .inv .2, f .1, list-no (seenIn (a .disk .now) (a .dated .now) (a .pending .now) (a .past .now) (a .h)) (a .page) (a .marked) (a .snapshots .now) (a .h .snapshots) (v .i) (v .due) (v .k) (v .inv .4) (c .before .before .before .before .if1 .taken) (omega arith) e)
+slice-aggregate-first-from : tie.Need-slice-aggregate-first-from
+slice-aggregate-first-from c = let s = c .before .before .before .before .before .before .before .before in sym (length-take-le (s .args .h .snapshots - 1) (s .args .snapshots .now) (omega arith))
 
-returns : tie.Need-returns Inv-loop μ-loop
-returns c = let v = c .before .before .loop in
-    let a = c .before .before .before .before .before .args in
-    (list-end (seenIn (a .disk .now) (a .dated .now) (a .pending .now) (a .past .now) (a .h)) (a .page) (a .marked) (a .snapshots .now) (a .h .snapshots) (v .i) (v .due) (v .k) (v .inv .4) (c .if1 .left) (omega arith), omega arith, v .inv .2)
+add-first-from : tie.Need-add-first-from
+add-first-from c = let i = c .before .before .before .before .before .before .before .before .args .h .snapshots - 1 in omega (arith, c .before .before .if2 .left, c .before .before .before .shared-slice-known .given i)
+
+first-from-requires : tie.Need-first-from-requires
+first-from-requires c κs = let s = c .before .before .before .before .before .before .before .before in
+    let a = s .args in
+    part-ordered (a .h .snapshots) (a .snapshots .now) (s .pre .1 .1 .3) (omega arith) 0 (a .h .snapshots - 1) (omega arith)
+
+slice-aggregate-first-from-2 : tie.Need-slice-aggregate-first-from-2
+slice-aggregate-first-from-2 c = let s = c .before .before .before .before .before .before .before .before .before .before in sym (length-take-le (s .args .h .snapshots - 1) (s .args .snapshots .now) (omega arith))
+
+first-from-requires-2 : tie.Need-first-from-requires-2
+first-from-requires-2 c κs = let s = c .before .before .before .before .before .before .before .before .before .before in
+    let a = s .args in
+    part-ordered (a .h .snapshots) (a .snapshots .now) (s .pre .1 .1 .3) (omega arith) 0 (a .h .snapshots - 1) (omega arith)
+
+list-between-requires : tie.Need-list-between-requires
+list-between-requires c κs = let s = c .before .before .before .before .before .before .before .before .before .before .before .before in
+    let a = s .args in
+    let k = s .pre .1 .1 in
+    let z = c .before .before .before .before .before .before .before .before .before .before .if1 .left in
+    (s .pre .0, (s .pre .1 .0, (k .0, k .1, k .2, omega (arith, first-inside (a .h .snapshots - 1) (a .snapshots .now) (omega arith) (c .before .first-from2 .ensures)), k .3)))
+
+slice-aggregate-look-at : tie.Need-slice-aggregate-look-at
+slice-aggregate-look-at c = search needs
+
+look-at-requires : tie.Need-look-at-requires
+look-at-requires c κs = let s = c .before .before .before .before .before .before .before .before .before .before .before .before .before .before in (s .pre .0, (s .pre .1 .0, search needs))
+
+slice-aggregate-some-beyond : tie.Need-slice-aggregate-some-beyond
+slice-aggregate-some-beyond c = search needs
+
+some-beyond-requires : tie.Need-some-beyond-requires
+some-beyond-requires c κs = search needs
+
+mul-due : tie.Need-mul-due
+mul-due c = omega (arith, few (c .before))
+
+element-write-due : tie.Need-element-write-due
+element-write-due c = omega (arith, few (c .before))
+
+add-result : tie.Need-add-result
+add-result c = omega (arith, few (c .before))
+
+returns-3 : tie.Need-returns-3
+returns-3 c = let b = c .before in
+    let a = start b .args in
+    let l = a .snapshots .now in
+    let n = a .h .snapshots in
+    let e = b .before .before .before .before .before .list-between .ensures .0 .1 in
+    let t = few b in
+    let v = list-yes (store b) (a .page) (a .marked) l n (n - 1) (list b) (count b) (listed b) (omega (arith, some b)) (whole b) (sym (told b) ∙ c .if3 .taken) (omega arith) in
+    let d = set (list b) (count b) (getD l (n - 1) 0) in
+    let g : length d ≡ 64 = simp length-set e in
+    (list-end (store b) (a .page) (a .marked) l n (n - 1 + 1) d (count b + 1) v (omega arith) (omega arith), omega arith, g)
+
+returns-4 : tie.Need-returns-4
+returns-4 c = let b = c .before in
+    let a = start b .args in
+    let l = a .snapshots .now in
+    let n = a .h .snapshots in
+    let e = b .before .before .before .before .before .list-between .ensures .0 .1 in
+    let t = few b in
+    let v = list-no (store b) (a .page) (a .marked) l n (n - 1) (list b) (count b) (listed b) (omega (arith, some b)) (whole b) (sym (told b) ∙ c .if3 .left) in
+    (list-end (store b) (a .page) (a .marked) l n (n - 1 + 1) (list b) (count b) v (omega arith) (omega arith), omega arith, e)
 
 pub list-dues-spec : {M : Type 1} → statement M
 list-dues-spec =
     tie.close
     (tie.spec
-    Inv-loop
-    μ-loop
-    newest-on-disk-requires
-    no-lull-requires
-    loop-holds
-    find-at-requires
-    mul-s
-    element-copy-out-s
-    add-i
+    returns
+    sub-end
+    mul-last
+    shared-slice-read-last
+    returns-2
+    newest-up-to-requires
+    slice-aggregate-first-from
+    add-first-from
+    first-from-requires
+    slice-aggregate-first-from-2
+    first-from-requires-2
+    list-between-requires
+    slice-aggregate-look-at
+    look-at-requires
+    slice-aggregate-some-beyond
+    some-beyond-requires
     mul-due
     element-write-due
-    add-k
-    loop-less
-    loop-again
-    loop-less-2
-    loop-again-2
-    returns)
+    add-result
+    returns-3
+    returns-4)

@@ -27,19 +27,19 @@ add-if3 c = search needs
 returns-3 : tie.Need-returns-3
 returns-3 c = commit-missized (c .before .before .before .before .before .args .body .now) (λ e. omega arith)
 
-objects-good-requires : tie.Need-objects-good-requires
-objects-good-requires c κs = search needs
-
 get-be-requires : tie.Need-get-be-requires
 get-be-requires c κs = search needs
 
+objects-good-requires : tie.Need-objects-good-requires
+objects-good-requires c κs = search needs
+
 returns-4 : tie.Need-returns-4
 returns-4 c =
-    let e = sym (c .before .before .objects-good .ensures) ∙ c .before .if4 .taken in
-    commit-sound (c .before .before .before .before .before .before .before .before .args .body .now) (c .get-be .ensures) (omega arith) e
+    let e = sym (c .before .objects-good .ensures) ∙ c .if4 .taken in
+    commit-sound (c .before .before .before .before .before .before .before .before .args .body .now) (c .before .before .get-be .ensures) (omega arith) e
 
 returns-5 : tie.Need-returns-5
-returns-5 c = commit-misshapen (c .before .before .before .before .before .before .before .args .body .now) (sym (c .before .objects-good .ensures) ∙ c .if4 .left)
+returns-5 c = commit-misshapen (c .before .before .before .before .before .before .before .before .args .body .now) (sym (c .before .objects-good .ensures) ∙ c .if4 .left)
 
 pub read-commit-spec : {M : Type 1} → statement M
 read-commit-spec =
@@ -52,7 +52,7 @@ read-commit-spec =
     mul-if3
     add-if3
     returns-3
-    objects-good-requires
     get-be-requires
+    objects-good-requires
     returns-4
     returns-5)

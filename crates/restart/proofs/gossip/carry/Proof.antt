@@ -20,7 +20,7 @@ returns c = let s = c .before .before .before .before .before in
 apply-gossip-requires : tie.Need-apply-gossip-requires
 apply-gossip-requires c κs = let s = c .before .before .before .before .before .before .before in
     let a = s .args in
-    gossip-ready (a .prev) (a .curr) (a .stamps .now) (s .pre .0) (c .before .before .before .before .judge-gossip .ensures) (sym (c .before .before .before .accepts .ensures) ∙ not-false _ (c .before .before .if1 .left))
+    gossip-ready (a .prev) (a .curr) (a .stamps .now) (s .pre .0) (c .before .before .before .before .judge-gossip .ensures) (sym (c .before .before .before .accepts .ensures) ∙ not-false _ (c .before .before .if1 .left)) (s .pre .1 .1)
 
 returns-2 : tie.Need-returns-2
 returns-2 c = let s = c .before .before .before .before .before .before .before .before in

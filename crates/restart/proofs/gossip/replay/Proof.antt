@@ -4,6 +4,7 @@ use mathlib.Core.Path.{ap, sym, _∙_}
 use native.Mathlib.Omega.{arith}
 use lib.ListN.{drop}
 use Rattle.model.specs.Bytes.{column}
+use Rattle.model.specs.Lists.{risingFrom}
 use Rattle.model.specs.Changes.{gossip}
 use Rattle.journal.proofs.Walks.{Front, blank-front, filled}
 use Rattle.restart.specs.Turns.{changeAt}
@@ -45,7 +46,10 @@ slice-aggregate-carry : tie.Need-slice-aggregate-carry
 slice-aggregate-carry c = stamps (c .before .before .before .before) .long
 
 carry-requires : tie.Need-carry-requires
-carry-requires c κs = (c .before .before .before .before .before .before .before .pre .0, omega (arith, stamps (c .before .before .before .before) .long, standing (c .before .before .before .before .before .before .before) .short))
+carry-requires c κs =
+    let s = c .before .before .before .before .before .before .before in
+    let n = stamps (c .before .before .before .before) in
+    (s .pre .0, (omega (arith, n .long, standing s .short), ap (risingFrom (s .args .head .prev)) (n .holds) ∙ standing s .rises))
 
 returns : tie.Need-returns
 returns c = let a = c .before .before .before .before .before .before .before .before .args .head in

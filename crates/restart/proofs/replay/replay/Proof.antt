@@ -1,8 +1,11 @@
 -- Each kind of record is carried out by its own replay.
 use borrow.Author.Needs.{needs}
-use Prim.Native.Nat.{_<_}
-use mathlib.Core.Path.{_≡_, sym, subst}
+use Prim.Native.Nat.{ℕ, _<_}
+use mathlib.Core.Path.{_≡_, sym, _∙_, subst}
+use lib.ListN.{take}
 use Rattle.model.specs.Changes.{flush}
+use Rattle.tables.specs.Rows.{pendings}
+use Rattle.tables.specs.Lookups.{Indexed}
 use Rattle.restart.specs.Turns.{Stands, changeAt}
 use Rattle.restart.proofs.Standing.{flush-stands}
 use Rattle.restart.proofs.Turning.{carried-as}
@@ -10,37 +13,86 @@ use Rattle.restart.proofs.Holding.{commit-held, gossip-held, commit-car
 use Rattle.restart.proofs.replay.replay.Statement.{statement}
 use Rattle.restart.proofs.replay.replay.Tie as tie
 
+abbrev start : tie.After-slice-known2 → tie.Start
+start c = c .before .before .before
+
+-- a commit
 enum-known-told : tie.Need-enum-known-told
 enum-known-told c = search needs
 
-replay-requires : tie.Need-replay-requires
-replay-requires c κs = let s = c .before .before .before .before .before .before .before .before in (commit-held (s .pre .0), subst (Stands (s .args .journal .now) (s .args .at)) (c .before .before .before .before .before .told .given .1) (s .pre .1))
+abbrev committed : tie.After-replay-arg7 → tie.After-told
+committed c = c .before .before .before .before .before .before .before .before
 
+replay-requires : tie.Need-replay-requires
+replay-requires c κs =
+    let t = committed c in
+    let s = start (t .before .before) in
+    let p = s .pre .1 in
+    (commit-held (s .pre .0), (p .0, (subst (Stands (s .args .journal .now) (s .args .at)) (t .told .given .1) (p .1 .0), p .1 .1)))
+
+-- a gossip message
 enum-known-told-2 : tie.Need-enum-known-told-2
 enum-known-told-2 c = search needs
 
-replay-requires-2 : tie.Need-replay-requires-2
-replay-requires-2 c κs = let s = c .before .before .before .before .before .before .before in (gossip-held (s .pre .0), subst (Stands (s .args .journal .now) (s .args .at)) (c .before .before .before .before .told2 .given .1) (s .pre .1))
+abbrev gossiped : tie.After-replay-arg10 → tie.After-told2
+gossiped c = c .before .before .before .before
 
+replay-requires-2 : tie.Need-replay-requires-2
+replay-requires-2 c κs =
+    let t = gossiped c in
+    let s = start (t .before .before) in
+    (gossip-held (s .pre .0), subst (Stands (s .args .journal .now) (s .args .at)) (t .told2 .given .1) (s .pre .1 .1 .0))
+
+-- a flush
 enum-known-told-3 : tie.Need-enum-known-told-3
 enum-known-told-3 c = search needs
 
+abbrev flushed : tie.After-carry-arg8 → tie.After-told3
+flushed c = c .before .before .before .before .before .before .before .before .before
+
 -- the flush that stands there
-flushed : (c : tie.After-told3) → let s = c .before .before .before in (changeAt (s .args .journal .now) (s .args .at) ≡ flush (c .told3 .given .0 .0 .page)) × (c .told3 .given .0 .0 .page < 32)
-flushed c = let s = c .before .before .before in
-    flush-stands (s .args .journal .now) (s .args .at) (subst (Stands (s .args .journal .now) (s .args .at)) (c .told3 .given .1) (s .pre .1))
+standing : (c : tie.After-told3)
+    → let s = start (c .before .before) in
+    (changeAt (s .args .journal .now) (s .args .at) ≡ flush (c .told3 .given .0 .0 .page)) × (c .told3 .given .0 .0 .page < 32)
+standing c =
+    let s = start (c .before .before) in
+    flush-stands (s .args .journal .now) (s .args .at) (subst (Stands (s .args .journal .now) (s .args .at)) (c .told3 .given .1) (s .pre .1 .1 .0))
 
 carry-requires : tie.Need-carry-requires
-carry-requires c κs = (c .before .before .before .before .before .before .before .before .before .before .before .pre .0, flushed (c .before .before .before .before .before .before .before .before) .1)
+carry-requires c κs =
+    let t = flushed c in
+    let s = start (t .before .before) in
+    (s .pre .0, (s .pre .1 .0, standing t .1))
+
+-- the lists are as long as they were
+same-length : tie.Need-same-length
+same-length c =
+    let r = c .before .before .before .before in
+    r .replay .ensures .1 .1 .0 ∙ sym (start (committed (r .before) .before .before) .pre .1 .1 .1 .0)
+
+same-length-2 : tie.Need-same-length-2
+same-length-2 c =
+    let r = c .before .before .before .before in
+    r .replay .ensures .1 .1 .1 ∙ sym (start (committed (r .before) .before .before) .pre .1 .1 .1 .1)
 
 returns : tie.Need-returns
-returns c = commit-carried (c .before .before .before .before .before .before .before .before .before .pre .0) (c .replay .ensures)
+returns c =
+    let r = c .before .before .before .before in
+    (commit-carried (start (committed (r .before) .before .before) .pre .0) (r .replay .ensures .0), r .replay .ensures .1)
 
 returns-2 : tie.Need-returns-2
-returns-2 c = gossip-carried (c .before .before .before .before .before .before .before .before .pre .0) (c .replay2 .ensures)
+returns-2 c =
+    let s = start (gossiped (c .before) .before .before) in
+    let e = c .replay2 .ensures in (
+      gossip-carried (s .pre .0) e,
+      (subst (λ (n : ℕ). Indexed (s .args .index .now) (take n (pendings (s .args .pending .now)))) (sym (e .entries)) (s .pre .1 .0), s .pre .1 .1 .1),
+    )
 
 returns-3 : tie.Need-returns-3
-returns-3 c = carried-as (c .carry .ensures) (sym (flushed (c .before .before .before .before .before .before .before .before .before) .0))
+returns-3 c =
+    let t = flushed (c .before) in
+    let e = c .carry .ensures in
+    (carried-as (e .0) (sym (standing t .0)), (e .1, start (t .before .before) .pre .1 .1 .1))
 
 pub replay-spec : {M : Type 1} → statement M
 replay-spec =
@@ -52,6 +104,8 @@ replay-spec =
     replay-requires-2
     enum-known-told-3
     carry-requires
+    same-length
+    same-length-2
     returns
     returns-2
     returns-3)

@@ -1,14 +1,15 @@
--- The rows judged so far are judged by the test.
+-- The rows judged so far are judged by the test, and the last search is kept with the end that it was made for.
 use Prim.Native.Nat.{ℕ, _≤_, _-_}
 use mathlib.Core.Bool.{Bool}
 use mathlib.Core.Path.{_≡_, refl, sym, ap, _∙_, subst}
+use mathlib.Core.Logic.{⊎-elim}
 use mathlib.Core.List.{List, map}
 use native.Mathlib.Omega.{arith}
 use lib.ListN.{length, take, length-set, length-map, List·getD-map}
 use borrow.Author.Needs.{needs}
 use Rattle.model.specs.declared.Past.{Past}
 use Rattle.tables.specs.Rows.{pasts}
-use Rattle.tables.specs.Lookups.{staysBy}
+use Rattle.tables.specs.Lookups.{lastBefore, staysBy}
 use Rattle.tables.proofs.Compacts.{noPast, copied}
 use Rattle.tables.proofs.dropping.judged.Statement.{statement}
 use Rattle.tables.proofs.dropping.judged.Tie as tie
@@ -17,19 +18,35 @@ abbrev test : ℕ → ℕ → ℕ → List ℕ → List ℕ → Past → Bool
 test scope horizon known snapshots marks = staysBy scope horizon (take known snapshots) marks
 
 abbrev Inv-loop : tie.InvT-loop
-Inv-loop t n scope horizon snapshots known marks stay₀ i₀ stay i = (i ≤ n) × (length stay ≡ 256) × (take i stay ≡ take i (map (test scope horizon known snapshots marks) (pasts t)))
+Inv-loop t n scope horizon snapshots known marks stay₀ until₀ s₀ i₀ stay until s i =
+    (i ≤ n) × (length stay ≡ 256) × (take i stay ≡ take i (map (test scope horizon known snapshots marks) (pasts t))) × (s ≡ lastBefore (take known snapshots) until)
 
 abbrev μ-loop : tie.MeasureT-loop
-μ-loop t n scope horizon snapshots known marks stay₀ i₀ stay i = n - i
+μ-loop t n scope horizon snapshots known marks stay₀ until₀ s₀ i₀ stay until s i = n - i
 
 unjudged-requires : tie.Need-unjudged-requires Inv-loop μ-loop
 unjudged-requires c κs = search needs
 
 loop-holds : tie.Need-loop-holds Inv-loop μ-loop
-loop-holds c = (omega arith, search needs, refl)
+loop-holds c = (omega arith, search needs, refl, refl)
 
 past-at-requires : tie.Need-past-at-requires Inv-loop μ-loop
 past-at-requires c κs = search needs
+
+last-before-requires : tie.Need-last-before-requires Inv-loop μ-loop
+last-before-requires c κs = search needs
+
+-- the search that is kept is the row's, whether it was made for this row or an earlier one
+searched : (c : tie.Joined1 Inv-loop μ-loop)
+    → (c .before .before .past-at .result .until ≡ c .if1 .until)
+    × (c .if1 .s ≡ lastBefore (take (c .before .before .before .before .before .before .args .known) (c .before .before .before .before .before .before .args .snapshots .now)) (c .before .before .past-at .result .until))
+searched c =
+    let v = c .before .before .before .before .loop in
+    let a = c .before .before .before .before .before .before .args in
+    ⊎-elim
+    (λ w. (sym (w .2), w .3 ∙ w .1 .ensures))
+    (λ w. (w .0 .left ∙ sym (w .1), w .2 ∙ v .inv .3 ∙ ap (lastBefore (take (a .known) (a .snapshots .now))) (sym (w .0 .left))))
+    (c .if1 .came)
 
 stays-requires : tie.Need-stays-requires Inv-loop μ-loop
 stays-requires c κs = search needs
@@ -44,14 +61,20 @@ loop-less : tie.Need-loop-less Inv-loop μ-loop
 loop-less c = search needs
 
 loop-again : tie.Need-loop-again Inv-loop μ-loop
-loop-again c = let v = c .before .before .before .loop in
-    let a = c .before .before .before .before .before .args in
+loop-again c =
+    let p = c .before .before .before .past-at in
+    let b = c .before .before .before .before .before in
+    let v = b .loop in
+    let a = b .before .before .args in
+    let known = take (a .known) (a .snapshots .now) in
     let f = test (a .scope) (a .horizon) (a .known) (a .snapshots .now) (a .marks .now) in
     let ps = pasts (a .t .now) in
-    let e = c .stays .ensures ∙ ap f (c .before .past-at .ensures) ∙ sym (List·getD-map f ps (v .i) noPast) in (
+    let w = searched (c .before) in
+    let e = c .stays .ensures known (w .1) ∙ ap f (p .ensures) ∙ sym (List·getD-map f ps (v .i) noPast) in (
       omega arith,
       simp length-set (v .inv .1),
       copied (v .stay) (map f ps) (v .i) (f noPast) (c .stays .result) (omega arith) (omega (arith, length-map ps f)) (v .inv .2) e,
+      w .1 ∙ ap (lastBefore known) (w .0),
     )
 
 returns : tie.Need-returns Inv-loop μ-loop
@@ -70,6 +93,7 @@ judged-spec =
     unjudged-requires
     loop-holds
     past-at-requires
+    last-before-requires
     stays-requires
     array-write-stay
     add-i

@@ -4,16 +4,16 @@ use mathlib.Core.Path.{_≡_, refl, _∙_, sym}
 use mathlib.Core.Bool.{true}
 use mathlib.Core.Logic.{⊎-elim}
 use native.Mathlib.Omega.{arith}
-use lib.ListN.{length, take, List·getD-eq-default}
+use lib.ListN.{length, List·getD-eq-default}
 use borrow.Author.Needs.{needs}
 use Rattle.tables.specs.Lookups.{inScope}
-use Rattle.tables.proofs.Living.{stays-out, stays-beyond, stays-mark, scope-all, scope-page}
+use Rattle.tables.proofs.Living.{stays-out, stays-beyond, stays-last, scope-all, scope-page}
 use Rattle.tables.proofs.dropping.stays.Statement.{statement}
 use Rattle.tables.proofs.dropping.stays.Tie as tie
 
 returns : tie.Need-returns
 returns c = let a = c .before .before .before .args in
-    stays-out (a .horizon) (take (a .known) (a .snapshots .now)) (a .q) (a .scope) (a .marks .now) (c .before .if1 .taken) (c .if2 .taken)
+    λ known l. stays-out (a .horizon) known (a .q) (a .scope) (a .marks .now) (c .before .if1 .taken) (c .if2 .taken)
 
 -- past the first tests the row is in scope
 scoped : (c : tie.Joined1) → inScope (c .before .before .args .scope) (c .before .before .args .q) ≡ true
@@ -26,30 +26,30 @@ beyond-requires c κs = search needs
 
 returns-2 : tie.Need-returns-2
 returns-2 c = let a = c .before .before .before .before .args in
-    stays-beyond (a .horizon) (take (a .known) (a .snapshots .now)) (a .q) (a .scope) (a .marks .now) (scoped (c .before .before)) (sym (c .before .beyond .ensures) ∙ c .if3 .taken)
+    λ known l. stays-beyond (a .horizon) known (a .q) (a .scope) (a .marks .now) (scoped (c .before .before)) (sym (c .before .beyond .ensures) ∙ c .if3 .taken)
 
-mul-wanted : tie.Need-mul-wanted
-mul-wanted c = search needs
+mul-wants : tie.Need-mul-wants
+mul-wants c = search needs
 
-element-copy-out-wanted : tie.Need-element-copy-out-wanted
-element-copy-out-wanted c = search needs
+element-copy-out-wants : tie.Need-element-copy-out-wants
+element-copy-out-wants c = search needs
 
-wanted-requires : tie.Need-wanted-requires
-wanted-requires c κs = search needs
+wants-requires : tie.Need-wants-requires
+wants-requires c κs = search needs
 
 returns-3 : tie.Need-returns-3
 returns-3 c = let a = c .before .before .before .before .before .before .before .args in
     let e = sym (c .before .before .before .before .beyond .ensures) ∙ c .before .before .before .if3 .left in
-    c .wanted .ensures ∙ stays-mark (a .horizon) (take (a .known) (a .snapshots .now)) (a .q) (a .scope) (a .marks .now) _ (scoped (c .before .before .before .before .before)) e refl
+    λ known l. c .wants .ensures ∙ stays-last (a .horizon) known (a .q) (a .scope) (a .marks .now) (a .s) _ l (scoped (c .before .before .before .before .before)) e refl
 
-wanted-requires-2 : tie.Need-wanted-requires-2
-wanted-requires-2 c κs = search needs
+wants-requires-2 : tie.Need-wants-requires-2
+wants-requires-2 c κs = search needs
 
 returns-4 : tie.Need-returns-4
 returns-4 c = let a = c .before .before .before .before .before .before .args in
     let e = sym (c .before .before .before .beyond .ensures) ∙ c .before .before .if3 .left in
     let o : length (a .marks .now) ≤ a .q .object / 16 = omega arith in
-    c .wanted2 .ensures ∙ stays-mark (a .horizon) (take (a .known) (a .snapshots .now)) (a .q) (a .scope) (a .marks .now) _ (scoped (c .before .before .before .before)) e (sym (List·getD-eq-default (a .marks .now) 0 o))
+    λ known l. c .wants2 .ensures ∙ stays-last (a .horizon) known (a .q) (a .scope) (a .marks .now) (a .s) _ l (scoped (c .before .before .before .before)) e (sym (List·getD-eq-default (a .marks .now) 0 o))
 
 pub stays-spec : {M : Type 1} → statement M
 stays-spec =
@@ -58,9 +58,9 @@ stays-spec =
     returns
     beyond-requires
     returns-2
-    mul-wanted
-    element-copy-out-wanted
-    wanted-requires
+    mul-wants
+    element-copy-out-wants
+    wants-requires
     returns-3
-    wanted-requires-2
+    wants-requires-2
     returns-4)
