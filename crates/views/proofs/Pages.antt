@@ -48,6 +48,10 @@ module _ (words out : List ℕ) (at k : ℕ) (e : take k out ≡ take k (drop at
   pub copy-end : k ≡ 16 → length out ≤ 16 → out ≡ take 16 (drop at words)
   copy-end q h = sym (take-all 16 out h) ∙ subst (λ n. take n out ≡ take n (drop at words)) q e
 
+-- sixteen words that were taken, taken again
+pub taken-again : (words : List ℕ) → take 16 (drop 0 (take 16 words)) ≡ take 16 words
+taken-again words = take-all 16 (take 16 words) (simp length-take (omega arith))
+
 -- ---- words replaced one by one: the first k of d by those of l
 module _ (l d : List ℕ) (k : ℕ) {out : List ℕ} (o : out ≡ take k l ++ drop k d) where
   pub replace-more : length l ≡ length d → k < length d → {y : List ℕ} (b : Bool) (w : ℕ) → getD l k 0 ≡ pick b w (getD d k 0)

@@ -26,8 +26,7 @@ pub struct View {
     pub ages: bool,
 }
 
-// Sixteen words from a place on.
-pub fn sixteen(words: &[u64], at: usize, out: &mut [u64])
+fn copy_sixteen(words: &[u64], at: usize, out: &mut [u64])
     requires { ⌜ (at + 16 ≤ length (now words)) × (length (now out) ≡ 16) ⌝ }
     ensures { λ _. ⌜ now (out .exit) ≡ take 16 (drop at (now (words .entry))) ⌝ }
 {
@@ -36,6 +35,16 @@ pub fn sixteen(words: &[u64], at: usize, out: &mut [u64])
         out[k] = words[at + k];
         k += 1;
     }
+}
+
+// Sixteen words from a place on. All are read before the first is written, so that the compiler may move several at a time.
+pub fn sixteen(words: &[u64], at: usize, out: &mut [u64])
+    requires { ⌜ (at + 16 ≤ length (now words)) × (length (now out) ≡ 16) ⌝ }
+    ensures { λ _. ⌜ now (out .exit) ≡ take 16 (drop at (now (words .entry))) ⌝ }
+{
+    let mut held = [0u64; 16];
+    copy_sixteen(words, at, &mut held);
+    copy_sixteen(&held, 0, out);
 }
 
 fn covers(q: Past, v: View) -> bool

@@ -1,75 +1,40 @@
--- From the first word on, those passed are copied.
-use Prim.Native.Nat.{_≤_, _-_}
-use mathlib.Core.Path.{_≡_}
-use native.Mathlib.Omega.{arith}
-use lib.ListN.{length, take, drop, length-set}
+-- Read to sixteen words of its own, and written from there.
+use mathlib.Core.Path.{ap, _∙_}
+use lib.ListN.{take, drop}
 use borrow.Author.Needs.{needs}
-use Rattle.views.proofs.Pages.{copy-more, copy-end}
+use Rattle.views.proofs.Pages.{taken-again}
 use Rattle.views.proofs.sixteen.Statement.{statement}
 use Rattle.views.proofs.sixteen.Tie as tie
 
-abbrev Inv-loop : tie.InvT-loop
-Inv-loop words at out₀ k₀ out k = (k ≤ 16) × (length out ≡ 16) × (take k out ≡ take k (drop at words))
+slice-aggregate-copy-sixteen : tie.Need-slice-aggregate-copy-sixteen
+slice-aggregate-copy-sixteen c = search needs
 
-abbrev μ-loop : tie.MeasureT-loop
-μ-loop words at out₀ k₀ out k = 16 - k
+copy-sixteen-requires : tie.Need-copy-sixteen-requires
+copy-sixteen-requires c κs = search needs
 
-loop-holds : tie.Need-loop-holds Inv-loop μ-loop
-loop-holds c = search needs
+slice-aggregate-copy-sixteen-2 : tie.Need-slice-aggregate-copy-sixteen-2
+slice-aggregate-copy-sixteen-2 c = search needs
 
-add-out : tie.Need-add-out Inv-loop μ-loop
-add-out c = search needs
+copy-sixteen-requires-2 : tie.Need-copy-sixteen-requires-2
+copy-sixteen-requires-2 c κs = search needs
 
-mul-out : tie.Need-mul-out Inv-loop μ-loop
-mul-out c = search needs
-
-shared-slice-read-out : tie.Need-shared-slice-read-out Inv-loop μ-loop
-shared-slice-read-out c = search needs
-
-mul-out-2 : tie.Need-mul-out-2 Inv-loop μ-loop
-mul-out-2 c = search needs
-
-slice-write-out : tie.Need-slice-write-out Inv-loop μ-loop
-slice-write-out c = search needs
-
-add-k : tie.Need-add-k Inv-loop μ-loop
-add-k c = search needs
-
-loop-less : tie.Need-loop-less Inv-loop μ-loop
-loop-less c = search needs
-
-loop-again : tie.Need-loop-again Inv-loop μ-loop
-loop-again c =
-    let b = c .before .before in
-    let v = b .loop in (
-      omega arith,
-      simp length-set (v .inv .1),
-      copy-more (b .before .args .words .now) (v .out) (b .before .args .at) (v .k) (v .inv .2) (omega arith) (omega arith),
-    )
-
-same-length : tie.Need-same-length Inv-loop μ-loop
+same-length : tie.Need-same-length
 same-length c = search needs
 
-returns : tie.Need-returns Inv-loop μ-loop
+returns : tie.Need-returns
 returns c =
-    let a = c .before .before .args in
-    let v = c .before .loop in
-    copy-end (a .words .now) (v .out) (a .at) (v .k) (v .inv .2) (omega arith) (omega arith)
+    let two = c .before .before in
+    let one = two .before .before .before .before in
+    let a = one .before .before .before .before .args in
+    two .copy-sixteen2 .ensures ∙ ap (λ ws. take 16 (drop 0 ws)) (one .copy-sixteen .ensures) ∙ taken-again (drop (a .at) (a .words .now))
 
 pub sixteen-spec : {M : Type 1} → statement M
 sixteen-spec =
     tie.close
     (tie.spec
-    Inv-loop
-    μ-loop
-    loop-holds
-    add-out
-    mul-out
-    shared-slice-read-out
-    mul-out-2
-    slice-write-out
-    add-k
-    loop-less
-    loop-again
+    slice-aggregate-copy-sixteen
+    copy-sixteen-requires
+    slice-aggregate-copy-sixteen-2
+    copy-sixteen-requires-2
     same-length
     returns)
