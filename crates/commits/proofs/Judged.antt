@@ -143,6 +143,3 @@ module _ (st : Store) (t : ℕ) (ws : List Write) where
 
   pub refused-code : {a : Answer} → judgeCommit st t ws ≡ Refused a → codeOf a ≡ 0 → ⊥
   refused-code e = subst (Told st t ws) e told
-
-  pub never-idle : judgeCommit st t ws ≡ Idle → ⊥
-  never-idle e = subst (Told st t ws) e told

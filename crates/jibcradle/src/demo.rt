@@ -1,5 +1,5 @@
 // Document 01's worked night, as lines of input.
-use crate::paths;
+use files::paths;
 ghost use Rattle.io.specs.Counts.{Counts};
 
 pub fn is_asked(word: &[u8]) -> bool {

@@ -1,10 +1,10 @@
 // One line served: the call that it is, carried out and answered.
-use crate::file;
-use crate::file::Renewal;
 use crate::help;
-use crate::paths;
 use crate::say;
 use changes::settling::Changed;
+use files::file;
+use files::file::Renewal;
+use files::paths;
 use journal::place::Place;
 use lines::Call;
 use model::Answer;

@@ -2,13 +2,13 @@
 use crate::demo;
 use crate::desk;
 use crate::desk::Desk;
-use crate::file;
-use crate::file::Whole;
 use crate::input;
 use crate::input::Input;
-use crate::lock;
-use crate::paths;
 use crate::say;
+use files::file;
+use files::file::Whole;
+use files::lock;
+use files::paths;
 use journal::place::Place;
 use restart::Started;
 use tables::Copied;

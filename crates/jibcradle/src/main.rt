@@ -2,12 +2,9 @@
 // `jibcradle` in memory, and `jibcradle --demo` shows document 01's worked night.
 mod demo;
 mod desk;
-mod file;
 mod help;
 mod input;
 mod kept;
-mod lock;
-mod paths;
 mod say;
 
 fn main() {
@@ -43,8 +40,8 @@ fn asked(word: &[u8]) {
         help::usage();
         return;
     }
-    if paths::LONGEST < word.len() {
-        say::trouble(word, b"the name is longer than 4000 bytes");
+    if files::paths::LONGEST < word.len() {
+        files::trouble::say(word, b"the name is longer than 4000 bytes");
         return;
     }
     kept::in_file(word);

@@ -1,6 +1,5 @@
-// What the program writes: answers on standard output, each at once, and refusals on standard error. An answer is false where
-// standard output takes no more, after a word on standard error.
-use crate::paths;
+// What the program writes on standard output, each answer at once. An answer is false where standard output takes no more, after
+// a word on standard error.
 use libc::STDERR_FILENO;
 use libc::STDOUT_FILENO;
 use lines::Fault;
@@ -40,7 +39,7 @@ pub fn text(words: &[u8]) -> bool {
 // The first n bytes of a line.
 fn first(line: &[u8; 512], n: usize) -> bool {
     let whole = &line[..];
-    let k = paths::within(n, whole);
+    let k = files::paths::within(n, whole);
     text(&whole[..k])
 }
 
@@ -99,19 +98,4 @@ pub fn refused_beyond(used: u64) -> bool {
     text(b"? the journal has ");
     io::print_decimal(STDOUT_FILENO, used);
     text(b" bytes\n")
-}
-
-pub fn trouble(name: &[u8], what: &[u8]) {
-    io::write_all(STDERR_FILENO, name);
-    io::write_all(STDERR_FILENO, b": ");
-    io::write_all(STDERR_FILENO, what);
-    io::write_all(STDERR_FILENO, b"\n");
-}
-
-pub fn trouble_with(name: &[u8], process: u64, what: &[u8]) {
-    io::write_all(STDERR_FILENO, name);
-    io::write_all(STDERR_FILENO, b": process ");
-    io::print_decimal(STDERR_FILENO, process);
-    io::write_all(STDERR_FILENO, what);
-    io::write_all(STDERR_FILENO, b"\n");
 }

@@ -8,13 +8,13 @@ use native.Mathlib.Omega.{arith}
 use lib.ListN.{length, take, drop, getD, set}
 use lib.Seq.{length-take-le, getD-take, take-set-lt, take-suc-set}
 use lib.Dec.{eqb, ltb, leb}
-use borrow.Author.Tests.{ne-eqb, lt-ltb, leb-false}
+use borrow.Author.Tests.{lt-ltb, leb-false}
 use Rattle.model.specs.declared.Pending.{Pending}
 use Rattle.model.specs.declared.Past.{Past}
 use Rattle.model.specs.Limits.{pages}
 use Rattle.model.specs.Lists.{pick, anyB, allB, kept}
 use Rattle.model.specs.Store.{Copy, Slot, none, some, mark, lookup, pageOf, liveB}
-use Rattle.model.specs.Changes.{put, staysB}
+use Rattle.model.specs.Changes.{put}
 use Rattle.tables.specs.declared.CopyHead.{CopyHead}
 use Rattle.tables.specs.declared.Found.{Found}
 use Rattle.tables.specs.declared.Found.the-variants.{At, Nothing}
@@ -92,14 +92,8 @@ module _ (h : ℕ) (known marks : List ℕ) (cs : List Copy) (m : (p : ℕ) → 
   pub stays-every : (q : Past) → staysBy 32 h known marks q ≡ liveB h known cs q
   stays-every q = rw (m (pageOf (q .object)))
 
-  pub stays-page : (p : ℕ) → p < 32 → (q : Past) → staysBy p h known marks q ≡ staysB h known cs p q
-  stays-page p l q = let e : p ≡ 32 → ⊥ = λ e. omega arith in rw (ne-eqb p 32 e, m (pageOf (q .object)))
-
   pub kept-every : (qs : List Past) → kept (staysBy 32 h known marks) qs ≡ kept (liveB h known cs) qs
   kept-every qs = kept-same (staysBy 32 h known marks) (liveB h known cs) stays-every qs
-
-  pub kept-page : (p : ℕ) → p < 32 → (qs : List Past) → kept (staysBy p h known marks) qs ≡ kept (staysB h known cs p) qs
-  kept-page p l qs = kept-same (staysBy p h known marks) (staysB h known cs p) (stays-page p l) qs
 
 -- ---- copies whose pages are in range, as heads
 pub pages-in : (n : ℕ) (hs : List CopyHead) (words : List ℕ) → anyB (λ (c : Copy). leb pages (c .page)) (take n (copiesOf hs words)) ≡ false

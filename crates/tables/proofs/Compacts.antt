@@ -1,22 +1,19 @@
 -- One turn of the compaction, on lists, and what it comes to; and one turn of a copy of rows.
 --     starts    nothing is looked at yet
 --     step      row i is looked at: it is put at place k, and k goes on where it is chosen
---     copied    a row more is as in the list that is copied
---     stayed    where all are chosen by a test, those that pass are the list itself
---     dropped   rows copied out, chosen by a test, compacted and copied back are those that pass
+--     copied    from row j on, a row more is as in the list that is copied
 use Prim.Native.Nat.{ℕ, zero, suc, _+_, _<_, _≤_}
 use mathlib.Core.Path.{_≡_, refl, sym, _∙_, ap, subst}
 use mathlib.Core.Bool.{Bool, true, false}
-use mathlib.Core.List.{List, [], _∷_, _++_, map, append-nil, tail-eq-of-cons-eq, head-eq-of-cons-eq}
+use mathlib.Core.List.{List, [], _∷_, _++_, append-nil, tail-eq-of-cons-eq, head-eq-of-cons-eq}
 use native.Mathlib.Numerals.{add-one}
 use native.Mathlib.Omega.{arith}
-use lib.ListN.{length, take, drop, getD, set, length-set}
-use lib.Seq.{take-suc, drop-cons, take-set-le, drop-set-lt, take-suc-set, length-take-le}
+use lib.ListN.{length, take, drop, getD, set, length-set, length-take}
+use lib.Seq.{take-suc, drop-cons, drop-append-le, take-set-le, drop-set-lt, take-suc-set}
 use Rattle.model.specs.declared.Past.{Past}
-use Rattle.model.specs.Lists.{pick, allB, kept}
+use Rattle.model.specs.Lists.{pick}
 use Rattle.tables.specs.Rows.{pastOf}
 use Rattle.tables.specs.Compaction.{after, chosen, Compacted}
-use Rattle.tables.proofs.Searches.{both-left, both-right}
 
 -- the row that stands for no row
 abbrev pub noPast : Past
@@ -70,30 +67,9 @@ module _ (bs : List Bool) (i : ℕ) (xs zs : List Past) (k : ℕ) (lb : i < leng
     drop-set-lt (suc i) zs k y (omega (arith, c .0)) ∙ tail-eq-of-cons-eq both,
   )
 
-pub copied : {A : Type 0} (ys zs : List A) (i : ℕ) (d y : A) → i < length ys → i < length zs → take i ys ≡ take i zs → y ≡ getD zs i d
-    → take (i + 1) (set ys i y) ≡ take (i + 1) zs
-copied ys zs i d y l m e q = rw (add-one, take-suc-set ys i y, take-suc zs i d, e, q)
-
-chosen-map : (f : Past → Bool) (n : ℕ) (xs : List Past) → chosen (take n (map f xs)) (take n xs) ≡ kept f (take n xs)
-chosen-map f zero xs = refl
-chosen-map f (suc n) [] = refl
-chosen-map f (suc n) (x ∷ xs) = ap (λ (r : List Past). pick (f x) (x ∷ r) r) (chosen-map f n xs)
-
-kept-all : (f : Past → Bool) (n : ℕ) (xs : List Past) → allB (λ b. b) (take n (map f xs)) ≡ true → take n xs ≡ kept f (take n xs)
-kept-all f zero xs e = refl
-kept-all f (suc n) [] e = refl
-kept-all f (suc n) (x ∷ xs) e =
-    let r = both-right (f x) (allB (λ b. b) (take n (map f xs))) e in
-    rw (both-left (f x) (allB (λ b. b) (take n (map f xs))) e) (ap (λ (r : List Past). x ∷ r) (kept-all f n xs r))
-
-pub stayed : (f : Past → Bool) (n : ℕ) (ps : List Past) (bs : List Bool) → take n bs ≡ take n (map f ps) → n ≤ length ps
-    → allB (λ b. b) (take n bs) ≡ true → (take n ps ≡ kept f (take n ps)) × (n ≡ length (kept f (take n ps)))
-stayed f n ps bs eb l h =
-    let e = kept-all f n ps (rw eb at h) in
-    (e, sym (length-take-le n ps l) ∙ ap length e)
-
-pub dropped : (f : Past → Bool) (n k : ℕ) (ps rows zs ts : List Past) (bs : List Bool) → take n rows ≡ take n ps → take n bs ≡ take n (map f ps)
-    → Compacted bs n rows zs k → take k ts ≡ take k zs → n ≤ length rows → (take k ts ≡ kept f (take n ps)) × (k ≡ length (kept f (take n ps)))
-dropped f n k ps rows zs ts bs er eb c et l =
-    let e : take k zs ≡ kept f (take n ps) = rw (er, eb, chosen-map f n ps) at (c .2) in
-    (et ∙ e, sym (length-take-le k zs (omega (arith, c .0, c .1))) ∙ ap length e)
+pub copied : {A : Type 0} (ys zs : List A) (j i : ℕ) (d y : A) → j ≤ i → i < length ys → i < length zs → drop j (take i ys) ≡ drop j (take i zs) → y ≡ getD zs i d
+    → drop j (take (i + 1) (set ys i y)) ≡ drop j (take (i + 1) zs)
+copied ys zs j i d y h l m e q =
+    let a : j ≤ length (take i ys) = simp length-take (omega arith) in
+    let b : j ≤ length (take i zs) = simp length-take (omega arith) in
+    rw (add-one, take-suc-set ys i y, take-suc zs i d, drop-append-le j (take i ys) (y ∷ []) a, drop-append-le j (take i zs) (getD zs i d ∷ []) b, e, q)

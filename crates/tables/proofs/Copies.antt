@@ -4,7 +4,7 @@ use mathlib.Core.Path.{_≡_, refl, ap, _∙_}
 use mathlib.Core.List.{List, [], _∷_}
 use native.Mathlib.Omega.{arith}
 use lib.ListN.{length, take, drop, getD}
-use lib.Seq.{drop-drop, getD-take, getD-drop}
+use lib.Seq.{drop-drop}
 use Rattle.model.specs.Store.{Copy}
 use Rattle.tables.specs.declared.CopyHead.{CopyHead}
 use Rattle.tables.specs.Rows.{copiesOf, copyHeadAt}
@@ -37,9 +37,6 @@ copy-values (h ∷ hs) words zero l = refl
 copy-values (h ∷ hs) words (suc i) l =
     let e : 16 + i * 16 ≡ suc i * 16 = omega arith in
     copy-values hs (drop 16 words) i (omega arith) ∙ ap (take 16) (drop-drop (i * 16) 16 words ∙ ap (λ k. drop k words) e)
-
-pub copy-value : (hs : List CopyHead) (words : List ℕ) (i k : ℕ) → i < length hs → k < 16 → getD (copyOf hs words i .values) k 0 ≡ getD words (i * 16 + k) 0
-copy-value hs words i k l h = rw (copy-values hs words i l) (getD-take 16 (drop (i * 16) words) k 0 h ∙ getD-drop (i * 16) words k 0)
 
 -- a turn over the heads is one over the copies
 pub copies-turn : {hs : List CopyHead} {n i : ℕ} → Turn hs n i → (words : List ℕ) → Turn (copiesOf hs words) n i

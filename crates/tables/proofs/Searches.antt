@@ -8,41 +8,21 @@ use native.Mathlib.Omega.{arith}
 use lib.ListN.{length, take, drop, getD, length-take, drop-of-length-le}
 use lib.Seq.{slice-cons}
 use Rattle.model.specs.Lists.{both, anyB, allB}
-use Rattle.tables.specs.declared.Found.the-variants.{At, Nothing}
-use Rattle.tables.specs.Lookups.{firstAt}
 use Rattle.tables.proofs.Cases.{clash}
 
 module _ {A : Type 0} (f : A → Bool) (n : ℕ) (l : List A) (i : ℕ) (d : A) (h : i < n) (k : n ≤ length l) where
-  pub first-no : f (getD l i d) ≡ false → firstAt f (drop i (take n l)) i ≡ firstAt f (drop (i + 1) (take n l)) (i + 1)
-  first-no e = rw (add-one, slice-cons i n l d, e)
-
-  pub first-yes : f (getD l i d) ≡ true → firstAt f (drop i (take n l)) i ≡ At i
-  first-yes e = rw (slice-cons i n l d, e)
-
   pub any-no : f (getD l i d) ≡ false → anyB f (drop i (take n l)) ≡ anyB f (drop (i + 1) (take n l))
   any-no e = rw (add-one, slice-cons i n l d, e)
 
   pub any-yes : f (getD l i d) ≡ true → anyB f (drop i (take n l)) ≡ true
   any-yes e = rw (slice-cons i n l d, e)
 
-  pub all-no : f (getD l i d) ≡ false → allB f (drop i (take n l)) ≡ false
-  all-no e = rw (slice-cons i n l d, e)
-
-  pub all-yes : f (getD l i d) ≡ true → allB f (drop i (take n l)) ≡ allB f (drop (i + 1) (take n l))
-  all-yes e = rw (add-one, slice-cons i n l d, e)
-
 -- nothing is left behind the last of n
 pub drop-end : {A : Type 0} (n : ℕ) (l : List A) (i : ℕ) → n ≤ i → drop i (take n l) ≡ []
 drop-end n l i h = let e : length (take n l) ≤ i = simp length-take (omega arith) in drop-of-length-le (take n l) e
 
-pub first-end : {A : Type 0} (f : A → Bool) (n : ℕ) (l : List A) (i : ℕ) → n ≤ i → firstAt f (drop i (take n l)) i ≡ Nothing
-first-end f n l i h = rw (drop-end n l i h)
-
 pub any-end : {A : Type 0} (f : A → Bool) (n : ℕ) (l : List A) (i : ℕ) → n ≤ i → anyB f (drop i (take n l)) ≡ false
 any-end f n l i h = rw (drop-end n l i h)
-
-pub all-end : {A : Type 0} (f : A → Bool) (n : ℕ) (l : List A) (i : ℕ) → n ≤ i → allB f (drop i (take n l)) ≡ true
-all-end f n l i h = rw (drop-end n l i h)
 
 -- where all rows pass, each does
 pub both-left : (a b : Bool) → both a b ≡ true → a ≡ true

@@ -3,11 +3,11 @@ use crate::PastTable;
 use crate::Snapshots;
 use model::Past;
 ghost use mathlib.Core.Path.{_≡_};
-ghost use mathlib.Core.Bool.{true};
+ghost use mathlib.Core.Bool.{true, false};
 ghost use mathlib.Core.List.{List, map};
 ghost use Prim.Native.Nat.{ℕ, _≤_, _<_};
-ghost use lib.ListN.{length, take};
-ghost use Rattle.model.specs.Lists.{allB, kept, risingFrom};
+ghost use lib.ListN.{length, take, drop, getD};
+ghost use Rattle.model.specs.Lists.{kept, risingFrom};
 ghost use Rattle.tables.specs.Rows.{pasts};
 ghost use Rattle.tables.specs.Lookups.{lastBefore, staysBy};
 ghost use Rattle.tables.specs.Compaction.{after, Compacted};
@@ -87,13 +87,13 @@ fn unjudged() -> [bool; 256] {
     [false; 256]
 }
 
-// The first n rows, as structs.
-fn unpacked(t: &PastTable, n: usize) -> [Past; 256]
-    requires { ⌜ (n ≤ 256) × (length (pasts (now t)) ≡ 256) ⌝ }
-    ensures { λ r. ⌜ take n r ≡ take n (pasts (now (t .entry))) ⌝ }
+// The rows from `from` up to n, as structs; the others are blank.
+fn unpacked(t: &PastTable, from: usize, n: usize) -> [Past; 256]
+    requires { ⌜ («from» ≤ n) × (n ≤ 256) × (length (pasts (now t)) ≡ 256) ⌝ }
+    ensures { λ r. ⌜ drop «from» (take n r) ≡ drop «from» (take n (pasts (now (t .entry)))) ⌝ }
 {
     let mut rows = blank();
-    let mut i: usize = 0;
+    let mut i: usize = from;
     while i < n {
         let q = crate::past_at(t, i);
         rows[i] = q;
@@ -131,34 +131,34 @@ fn judged(
     stay
 }
 
-// None of the first n rows goes.
-fn all_stay(stay: [bool; 256], n: usize) -> bool
+// The first of the n rows that goes, or n: those before it stay.
+fn first_going(stay: [bool; 256], n: usize) -> usize
     requires { ⌜ n ≤ 256 ⌝ }
-    ensures { λ r. ⌜ r ≡ allB (λ b. b) (take n stay) ⌝ }
+    ensures { λ r. ⌜ (r ≤ n) × ((k : ℕ) → k < r → getD stay k false ≡ true) ⌝ }
 {
     let mut i: usize = 0;
     while i < n {
         if !stay[i] {
-            return false;
+            return i;
         }
         i += 1;
     }
-    true
+    n
 }
 
-// The first n rows back as words.
-fn pack(t: &mut PastTable, rows: [Past; 256], n: usize)
-    requires { ⌜ (n ≤ 256) × (length (pasts (now t)) ≡ 256) ⌝ }
-    ensures { λ _. ⌜ (take n (pasts (now (t .exit))) ≡ take n rows) × (length (pasts (now (t .exit))) ≡ 256) ⌝ }
+// The rows from `from` up to n back as words; those before are left alone.
+fn pack(t: &mut PastTable, rows: [Past; 256], from: usize, n: usize)
+    requires { ⌜ («from» ≤ n) × (n ≤ 256) × (length (pasts (now t)) ≡ 256) ⌝ }
+    ensures { λ _. ⌜ (take «from» (pasts (now (t .exit))) ≡ take «from» (pasts (now (t .entry)))) × (drop «from» (take n (pasts (now (t .exit)))) ≡ drop «from» (take n rows)) × (length (pasts (now (t .exit))) ≡ 256) ⌝ }
 {
-    let mut i: usize = 0;
+    let mut i: usize = from;
     while i < n {
         crate::put_past(t, i, rows[i]);
         i += 1;
     }
 }
 
-// Keeps the rows that stay; the result is their count. Where none goes, nothing is moved.
+// Keeps the rows that stay; the result is their count. Only rows behind the first that goes are moved.
 pub fn drop_dead(
     t: &mut PastTable,
     n: usize,
@@ -172,12 +172,13 @@ pub fn drop_dead(
     ensures { λ r. ⌜ (take r (pasts (now (t .exit))) ≡ kept (staysBy scope horizon (take known (now (snapshots .entry))) (now (marks .entry))) (take n (pasts (now (t .entry))))) × (r ≡ length (kept (staysBy scope horizon (take known (now (snapshots .entry))) (now (marks .entry))) (take n (pasts (now (t .entry)))))) × (length (pasts (now (t .exit))) ≡ 256) ⌝ }
 {
     let stay = judged(t, n, scope, horizon, snapshots, known, marks);
-    if all_stay(stay, n) {
+    let first = first_going(stay, n);
+    if first == n {
         return n;
     }
-    let rows = unpacked(t, n);
+    let rows = unpacked(t, first, n);
     let front = compacted(rows, n, stay);
     let rows = front.rows;
-    pack(t, rows, front.n);
+    pack(t, rows, first, front.n);
     front.n
 }

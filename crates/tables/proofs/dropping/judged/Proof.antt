@@ -73,7 +73,7 @@ loop-again c =
     let e = c .stays .ensures known (w .1) ∙ ap f (p .ensures) ∙ sym (List·getD-map f ps (v .i) noPast) in (
       omega arith,
       simp length-set (v .inv .1),
-      copied (v .stay) (map f ps) (v .i) (f noPast) (c .stays .result) (omega arith) (omega (arith, length-map ps f)) (v .inv .2) e,
+      copied (v .stay) (map f ps) 0 (v .i) (f noPast) (c .stays .result) (omega arith) (omega arith) (omega (arith, length-map ps f)) (v .inv .2) e,
       w .1 ∙ ap (lastBefore known) (w .0),
     )
 

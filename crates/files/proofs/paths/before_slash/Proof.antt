@@ -3,8 +3,8 @@ use Prim.Native.Nat.{_≤_}
 use lib.ListN.{length}
 use Rattle.io.proofs.Counting.{counts}
 use borrow.Author.Needs.{needs}
-use Rattle.jibcradle.proofs.paths.before_slash.Statement.{statement}
-use Rattle.jibcradle.proofs.paths.before_slash.Tie as tie
+use Rattle.files.proofs.paths.before_slash.Statement.{statement}
+use Rattle.files.proofs.paths.before_slash.Tie as tie
 
 abbrev Inv-loop : tie.InvT-loop
 Inv-loop path at₀ at = at ≤ length path

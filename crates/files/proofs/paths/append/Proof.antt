@@ -4,8 +4,8 @@ use mathlib.Core.Path.{_≡_}
 use lib.ListN.{length}
 use Rattle.io.proofs.Counting.{counts}
 use borrow.Author.Needs.{needs}
-use Rattle.jibcradle.proofs.paths.append.Statement.{statement}
-use Rattle.jibcradle.proofs.paths.append.Tie as tie
+use Rattle.files.proofs.paths.append.Statement.{statement}
+use Rattle.files.proofs.paths.append.Tie as tie
 
 abbrev Inv-loop : tie.InvT-loop
 Inv-loop out₀ at bytes end₀ i₀ out end i = (end ≤ length out₀) × (length out ≡ length out₀)

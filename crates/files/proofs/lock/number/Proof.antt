@@ -2,8 +2,8 @@
 use Prim.Native.Nat.{_-_}
 use lib.ListN.{length}
 use borrow.Author.Needs.{needs}
-use Rattle.jibcradle.proofs.lock.number.Statement.{statement}
-use Rattle.jibcradle.proofs.lock.number.Tie as tie
+use Rattle.files.proofs.lock.number.Statement.{statement}
+use Rattle.files.proofs.lock.number.Tie as tie
 
 abbrev Inv-loop : tie.InvT-loop
 Inv-loop text n₀ i₀ n i = Unit {0}

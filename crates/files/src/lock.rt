@@ -1,14 +1,17 @@
 // The lock: JOURNAL.lock holds the number of the process that has the journal.
 use crate::file;
 use crate::paths;
-use crate::say;
+use crate::trouble;
 ghost use Prim.Native.Nat.{_≤_};
 
 // No such process.
 const ESRCH: i32 = 3;
 
-// Tries of a lock without a number, whose process may be about to write it.
+// Tries of a lock without a number, whose process may be about to write it, and the seconds that they may last: on a busy machine
+// each try may be long.
 const TRIES: u64 = 100000;
+
+const SECONDS: u64 = 5;
 
 fn own() -> u64 {
     let process = libc::getpid();
@@ -62,9 +65,17 @@ fn holder(lock: &[u8]) -> u64 {
     number(&text[..n])
 }
 
-// The same, after some waiting for a number.
+// The clock's second.
+fn second() -> i64 {
+    let mut now: i64 = 0;
+    libc::time(&mut now)
+}
+
+// The same, after some waiting for a number. The clock may be set meanwhile, so only that its second changes is looked at.
 fn awaited(lock: &[u8]) -> u64 {
     let mut left = TRIES;
+    let mut seconds: u64 = 0;
+    let mut now = second();
     while 0 < left {
         let process = holder(lock);
         if process != 0 {
@@ -72,6 +83,14 @@ fn awaited(lock: &[u8]) -> u64 {
         }
         libc::sched_yield();
         left -= 1;
+        let then = now;
+        now = second();
+        if now != then {
+            if seconds == SECONDS {
+                return 0;
+            }
+            seconds += 1;
+        }
     }
     0
 }
@@ -109,7 +128,7 @@ fn is_ours(lock: &[u8], file: i32) -> bool {
         return false;
     }
     if holder(lock) != own() {
-        say::trouble(lock, b"another program has taken it");
+        trouble::say(lock, b"another program has taken it");
         return false;
     }
     true
@@ -132,7 +151,7 @@ fn is_guarded(guard: &[u8]) -> bool {
     }
     let process = awaited(guard);
     if lives(process) {
-        say::trouble_with(guard, process, b" is taking the lock over");
+        trouble::say_of(guard, process, b" is taking the lock over");
         return false;
     }
     os::unlink(guard);
@@ -151,7 +170,7 @@ fn is_removed(lock: &[u8], process: u64) -> bool {
     if same {
         os::unlink(lock);
     } else {
-        say::trouble(lock, b"another program has taken it");
+        trouble::say(lock, b"another program has taken it");
     }
     os::unlink(&guard[..n]);
     same
@@ -160,7 +179,7 @@ fn is_removed(lock: &[u8], process: u64) -> bool {
 fn is_taken_over(lock: &[u8]) -> bool {
     let process = awaited(lock);
     if lives(process) {
-        say::trouble_with(lock, process, b" has the journal");
+        trouble::say_of(lock, process, b" has the journal");
         return false;
     }
     if file::is_free(lock) {
@@ -170,9 +189,9 @@ fn is_taken_over(lock: &[u8]) -> bool {
         return false;
     }
     if process == 0 {
-        say::trouble(lock, b"there was no process in it; it is taken over");
+        trouble::say(lock, b"there was no process in it; it is taken over");
     } else {
-        say::trouble_with(lock, process, b" is gone; its lock is taken over");
+        trouble::say_of(lock, process, b" is gone; its lock is taken over");
     }
     is_made(lock)
 }

@@ -1,8 +1,8 @@
 -- The smaller of the two.
 use Rattle.io.proofs.Counting.{counts}
 use borrow.Author.Needs.{needs}
-use Rattle.jibcradle.proofs.paths.within.Statement.{statement}
-use Rattle.jibcradle.proofs.paths.within.Tie as tie
+use Rattle.files.proofs.paths.within.Statement.{statement}
+use Rattle.files.proofs.paths.within.Tie as tie
 
 returns : tie.Need-returns
 returns c = counts _ _ (search needs)

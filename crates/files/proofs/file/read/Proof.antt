@@ -3,8 +3,8 @@ use Prim.Native.Nat.{_≤_, _-_}
 use mathlib.Core.Path.{_≡_}
 use lib.ListN.{length}
 use borrow.Author.Needs.{needs}
-use Rattle.jibcradle.proofs.file.read.Statement.{statement}
-use Rattle.jibcradle.proofs.file.read.Tie as tie
+use Rattle.files.proofs.file.read.Statement.{statement}
+use Rattle.files.proofs.file.read.Tie as tie
 
 abbrev Inv-loop : tie.InvT-loop
 Inv-loop path file journal₀ n₀ journal n = (n ≤ length journal) × (length journal ≡ length journal₀)

@@ -2,8 +2,8 @@
 use Prim.Native.Nat.{_-_}
 use lib.ListN.{length}
 use borrow.Author.Needs.{needs}
-use Rattle.jibcradle.proofs.file.is_written.Statement.{statement}
-use Rattle.jibcradle.proofs.file.is_written.Tie as tie
+use Rattle.files.proofs.file.is_written.Statement.{statement}
+use Rattle.files.proofs.file.is_written.Tie as tie
 
 abbrev Inv-loop : tie.InvT-loop
 Inv-loop file bytes from at₀ at = Unit {0}

@@ -1,6 +1,6 @@
 // The journal's file. The descriptor -1 stands for a journal in memory, which needs none of this.
 use crate::paths;
-use crate::say;
+use crate::trouble;
 ghost use Prim.Native.Nat.{_+_, _≤_};
 ghost use lib.ListN.{length};
 
@@ -137,7 +137,7 @@ fn is_ours(path: &[u8], file: i32, end: usize) -> bool {
         return false;
     }
     if found != offset(end) {
-        say::trouble(path, b"another program has changed it");
+        trouble::say(path, b"another program has changed it");
         return false;
     }
     true
