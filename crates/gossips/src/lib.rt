@@ -7,7 +7,7 @@ use tables::PastTable;
 use tables::Snapshots;
 ghost use mathlib.Core.Path.{_≡_};
 ghost use mathlib.Core.Bool.{true};
-ghost use mathlib.Core.List.{List};
+ghost use mathlib.Core.List.{List, []};
 ghost use Prim.Native.Nat.{ℕ, _+_, _≤_, min};
 ghost use lib.ListN.{length, take, drop};
 ghost use lib.Dec.{ltb, leb};
@@ -30,13 +30,6 @@ fn smaller(a: u64, b: u64) -> u64
     if a <= b { a } else { b }
 }
 
-// A known snapshot that the message speaks of: beyond prev, up to a bound.
-fn spoken(s: u64, prev: u64, upto: u64) -> bool
-    ensures { λ r. ⌜ r ≡ both (ltb prev s) (leb s upto) ⌝ }
-{
-    if prev < s { s <= upto } else { false }
-}
-
 // The index from i on of the first stamp up to a bound, or the length: behind a stamp beyond the bound all are.
 fn skip(stamps: &[u64], upto: u64, i: usize) -> usize
     requires { ⌜ (i ≤ length (now stamps)) × (risingFrom 0 (now stamps) ≡ true) ⌝ }
@@ -50,33 +43,45 @@ fn skip(stamps: &[u64], upto: u64, i: usize) -> usize
     stamps.len()
 }
 
-// The message's stamps up to a bound against the known ones beyond prev up to there.
-fn compare(snapshots: &Snapshots, known: usize, prev: u64, upto: u64, stamps: &[u64]) -> Compared
-    requires { ⌜ (known ≤ 64) × (length (now snapshots) ≡ 64) × (risingFrom 0 (now stamps) ≡ true) ⌝ }
-    ensures { λ r. ⌜ r ≡ comparedAs (compared (kept (λ s. leb s upto) (now (stamps .entry))) (kept (λ s. both (ltb prev s) (leb s upto)) (take known (now (snapshots .entry))))) ⌝ }
+// Where no known snapshot is ahead: a stamp from i on, up to the bound, is one too many.
+fn against_none(stamps: &[u64], upto: u64, i: usize) -> Compared
+    requires { ⌜ (i ≤ length (now stamps)) × (risingFrom 0 (now stamps) ≡ true) ⌝ }
+    ensures { λ r. ⌜ r ≡ comparedAs (compared (kept (λ s. leb s upto) (drop i (now (stamps .entry)))) []) ⌝ }
 {
-    let mut i: usize = 0;
-    let mut j: usize = 0;
-    while j < known {
-        let y = snapshots[j];
-        j += 1;
-        if spoken(y, prev, upto) {
-            i = skip(stamps, upto, i);
-            if i == stamps.len() {
-                return Compared::Differ(y);
-            }
-            let x = stamps[i];
-            if x != y {
-                return Compared::Differ(smaller(x, y));
-            }
-            i += 1;
-        }
-    }
-    i = skip(stamps, upto, i);
-    if i < stamps.len() {
-        return Compared::Differ(stamps[i]);
+    let k = skip(stamps, upto, i);
+    if k < stamps.len() {
+        return Compared::Differ(stamps[k]);
     }
     Compared::Same
+}
+
+// The message's stamps up to a bound against the known ones beyond prev up to there. Those ascend, so that the first beyond
+// prev is searched, and the first beyond the bound ends the comparison.
+fn compare(snapshots: &Snapshots, known: usize, prev: u64, upto: u64, stamps: &[u64]) -> Compared
+    requires { ⌜ (known ≤ 64) × (length (now snapshots) ≡ 64) × (risingFrom 0 (now stamps) ≡ true) × (risingFrom 0 (take known (now snapshots)) ≡ true) ⌝ }
+    ensures { λ r. ⌜ r ≡ comparedAs (compared (kept (λ s. leb s upto) (now (stamps .entry))) (kept (λ s. both (ltb prev s) (leb s upto)) (take known (now (snapshots .entry))))) ⌝ }
+{
+    let all = &snapshots[..];
+    let heard = &all[..known];
+    let mut i: usize = 0;
+    let mut j = count_known(heard, prev);
+    while j < heard.len() {
+        let y = heard[j];
+        if upto < y {
+            return against_none(stamps, upto, i);
+        }
+        i = skip(stamps, upto, i);
+        if i == stamps.len() {
+            return Compared::Differ(y);
+        }
+        let x = stamps[i];
+        if x != y {
+            return Compared::Differ(smaller(x, y));
+        }
+        i += 1;
+        j += 1;
+    }
+    against_none(stamps, upto, i)
 }
 
 // How many of the stamps, which ascend, lie up to the horizon.
@@ -84,7 +89,7 @@ fn count_known(stamps: &[u64], horizon: u64) -> usize
     requires { ⌜ risingFrom 0 (now stamps) ≡ true ⌝ }
     ensures { λ r. ⌜ (kept (ltb horizon) (now (stamps .entry)) ≡ drop r (now (stamps .entry))) × (r ≤ length (now (stamps .entry))) ⌝ }
 {
-    let mut i: usize = 0;
+    let mut i = leap(stamps, horizon);
     while i < stamps.len() {
         if horizon < stamps[i] {
             return i;
@@ -92,6 +97,21 @@ fn count_known(stamps: &[u64], horizon: u64) -> usize
         i += 1;
     }
     i
+}
+
+// Eight stamps at a step: how many are passed while the last of a step is up to the horizon.
+fn leap(stamps: &[u64], horizon: u64) -> usize
+    requires { ⌜ risingFrom 0 (now stamps) ≡ true ⌝ }
+    ensures { λ r. ⌜ (kept (ltb horizon) (now (stamps .entry)) ≡ kept (ltb horizon) (drop r (now (stamps .entry)))) × (r ≤ length (now (stamps .entry))) ⌝ }
+{
+    let mut k: usize = 0;
+    while k + 8 <= stamps.len() {
+        if horizon < stamps[k + 7] {
+            return k;
+        }
+        k += 8;
+    }
+    k
 }
 
 // What the store says of the message: Gap, Conflict, nothing new, Snapshots full, or accepted.
@@ -102,7 +122,7 @@ pub fn judge_gossip(
     curr: u64,
     stamps: &[u64],
 ) -> Verdict
-    requires { ⌜ (length (now snapshots) ≡ 64) × (h .snapshots ≤ 64) × (length (now stamps) ≤ 16) × (risingFrom prev (now stamps) ≡ true) ⌝ }
+    requires { ⌜ (length (now snapshots) ≡ 64) × (h .snapshots ≤ 64) × (length (now stamps) ≤ 16) × (risingFrom prev (now stamps) ≡ true) × (risingFrom 0 (take (h .snapshots) (now snapshots)) ≡ true) ⌝ }
     ensures { λ r. ⌜ ((disk dated : List ℕ) (pending past copies : List (List ℕ)) (copied : List ℕ) → r ≡ judgeGossip (contents disk dated pending past (now (snapshots .entry)) copies copied h) prev curr (now (stamps .entry))) ⌝ }
 {
     if h.horizon < prev {

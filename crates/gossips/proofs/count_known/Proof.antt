@@ -18,6 +18,9 @@ Inv-loop stamps horizon i₀ i = (i ≤ length stamps) × (kept (ltb horizon) st
 abbrev μ-loop : tie.MeasureT-loop
 μ-loop stamps horizon i₀ i = length stamps - i
 
+leap-requires : tie.Need-leap-requires Inv-loop μ-loop
+leap-requires c κs = search needs
+
 loop-holds : tie.Need-loop-holds Inv-loop μ-loop
 loop-holds c = search needs
 
@@ -28,10 +31,10 @@ shared-slice-read-if1 : tie.Need-shared-slice-read-if1 Inv-loop μ-loop
 shared-slice-read-if1 c = search needs
 
 returns : tie.Need-returns Inv-loop μ-loop
-returns c = let b = c .before .before .before in
-    let a = b .before .args in
-    let v = b .loop in
-    (v .inv .1 ∙ rest-all (a .horizon) 0 (a .stamps .now) (v .i) (c .before .before .loop-test .taken) (b .before .pre) (c .if1 .taken), v .inv .0)
+returns c = let b = c .before .before .before .before .before .before in
+    let a = b .args in
+    let v = c .before .before .before .loop in
+    (v .inv .1 ∙ rest-all (a .horizon) 0 (a .stamps .now) (v .i) (c .before .before .loop-test .taken) (b .pre) (c .if1 .taken), v .inv .0)
 
 add-i : tie.Need-add-i Inv-loop μ-loop
 add-i c = search needs
@@ -40,12 +43,12 @@ loop-less : tie.Need-loop-less Inv-loop μ-loop
 loop-less c = search needs
 
 loop-again : tie.Need-loop-again Inv-loop μ-loop
-loop-again c = let a = c .before .before .before .before .args in
+loop-again c = let a = c .before .before .before .before .before .before .args in
     let v = c .before .before .before .loop in
     (omega arith, v .inv .1 ∙ ahead-no (ltb (a .horizon)) (a .stamps .now) (v .i) (c .before .before .loop-test .taken) (le-ltb (a .horizon) (getD (a .stamps .now) (v .i) 0) (omega arith)))
 
 returns-2 : tie.Need-returns-2 Inv-loop μ-loop
-returns-2 c = let a = c .before .before .args in
+returns-2 c = let a = c .before .before .before .before .args in
     let v = c .before .loop in
     (v .inv .1 ∙ ahead-end (ltb (a .horizon)) (a .stamps .now) (v .i) (c .loop-test .left) ∙ sym (drop-of-length-le (a .stamps .now) (c .loop-test .left)), v .inv .0)
 
@@ -55,6 +58,7 @@ count-known-spec =
     (tie.spec
     Inv-loop
     μ-loop
+    leap-requires
     loop-holds
     mul-if1
     shared-slice-read-if1

@@ -41,7 +41,7 @@ smaller-requires : tie.Need-smaller-requires
 smaller-requires c κs = search needs
 
 compare-requires : tie.Need-compare-requires
-compare-requires c κs = let b = c .before .before .before .before in (b .pre .1, b .pre .0, rises b)
+compare-requires c κs = let b = c .before .before .before .before in (b .pre .1, b .pre .0, rises b, b .pre .4)
 
 enum-known-s : tie.Need-enum-known-s
 enum-known-s c = search needs

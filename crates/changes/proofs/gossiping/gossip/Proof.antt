@@ -112,7 +112,7 @@ rise c = let a = start3 c .args in stamps-rise (a .prev) (a .curr) (a .stamps .n
 judge-gossip-requires : tie.Need-judge-gossip-requires
 judge-gossip-requires c κs =
     let e = back2 (back3 (c .before)) in
-    (rows e .snapshot-words, sound e .counted .snapshot-count, short (c .before), rise (c .before))
+    (rows e .snapshot-words, sound e .counted .snapshot-count, short (c .before), rise (c .before), sound e .rising)
 
 mul-settled : tie.Need-mul-settled
 mul-settled c = omega (arith, short (c .before .before .before))
