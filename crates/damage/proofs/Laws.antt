@@ -4,7 +4,7 @@ use mathlib.Core.Path.{_≡_, refl, ap, _∙_, sym}
 use mathlib.Core.Bool.{Bool, true, false, not}
 use mathlib.Core.List.{List, [], _∷_, map}
 use native.Mathlib.Omega.{arith}
-use lib.ListN.{length, take, getD, length-map, List·getD-map}
+use lib.ListN.{length, take, getD, length-map, length-take, List·getD-map}
 use lib.Seq.{length-take-le, getD-take}
 use lib.Dec.{ltb, leb}
 use borrow.Author.Tests.{ltb-false, leb-true, leb-false, lt-ltb, le-ltb}
@@ -12,12 +12,14 @@ use Rattle.model.specs.declared.Pending.{Pending}
 use Rattle.model.specs.Lists.{both, either, anyB, allB, twiceB}
 use Rattle.model.specs.Damage.{overfull, misnumbered, doubled, misordered, damaged}
 use Rattle.rules.proofs.Laws.{within}
+use Rattle.rules.proofs.Marks.{few-once}
 use Rattle.tables.specs.declared.Heads.{Heads}
 use Rattle.tables.specs.Rows.{pendingOf, pastOf, pendings, pasts, copyHeads, copiesOf, pendingAt}
 use Rattle.tables.specs.Contents.{contents, Counted}
 use Rattle.tables.proofs.Cases.{by-test, clash}
 use Rattle.tables.proofs.Copies.{noCopy, copies-of-length}
 use Rattle.tables.proofs.Counts.{up-to-take, up-to-length}
+use Rattle.damage.specs.Sifted.{Sifted}
 
 -- ---- a chain of tests
 pub hit : {a : Bool} (b : Bool) → a ≡ true → true ≡ either a b
@@ -64,6 +66,10 @@ pub record Turn (n : ℕ) (es : List Pending) (i : ℕ) (e : Pending) : Type 0 w
 
 pub objects-length : (n : ℕ) (es : List Pending) → n ≤ length es → length (objectsOf n es) ≡ n
 objects-length n es l = length-map (take n es) (λ e. e .object) ∙ length-take-le n es l
+
+-- of fewer than two entries none is a second one
+pub lone : (n : ℕ) (es : List Pending) → n < 2 → twiceB (objectsOf n es) ≡ false
+lone n es h = few-once (objectsOf n es) (simp (length-map, length-take) (omega arith))
 
 module _ {n : ℕ} {es : List Pending} {i : ℕ} {e : Pending} (t : Turn n es i e) where
   pub object-at : getD (objectsOf n es) i 0 ≡ e .object
@@ -146,3 +152,14 @@ module _ (values stamps : List ℕ) (pending past : List (List ℕ)) (snapshots 
         not-both,
         either-flat,
       )
+
+-- a test of the ranges that hits
+pub sifted-hit : {pending past : List (List ℕ)} {snapshots : List ℕ} {copies : List (List ℕ)} {h : Heads}
+    → ((values stamps copied : List ℕ) → true ≡ damaged (contents values stamps pending past snapshots copies copied h)) → Sifted true pending past snapshots copies h
+sifted-hit d = record {
+  hit = λ e values stamps copied. sym (d values stamps copied);
+  left = λ e. clash e;
+  counted = λ e. clash e;
+  low = λ e. clash e;
+  rising = λ e. clash e;
+}

@@ -16,6 +16,7 @@ ghost use Rattle.model.specs.Damage as model;
 ghost use Rattle.tables.specs.Rows.{pendings, pasts, copyHeads, copiesOf};
 ghost use Rattle.tables.specs.Lookups.{Indexed};
 ghost use Rattle.tables.specs.Contents.{contents};
+ghost use Rattle.damage.specs.Sifted.{Sifted};
 
 // A count is over its limit.
 fn overfull(h: Heads) -> bool
@@ -77,9 +78,37 @@ fn copies_out(t: &CopyTable, n: usize) -> bool
     32 <= pages
 }
 
+// A count or a number is out of its range, or the snapshots don't ascend to the horizon: all of Damaged but two entries of one object.
+pub fn out_of_range(
+    pending: &PendingTable,
+    past: &PastTable,
+    snapshots: &Snapshots,
+    copies: &CopyTable,
+    h: Heads,
+) -> bool
+    requires { ⌜ (length (pendings (now pending)) ≡ 128) × (length (pasts (now past)) ≡ 256) × (length (now snapshots) ≡ 64) × (length (copyHeads (now copies)) ≡ 128) ⌝ }
+    ensures { λ r. ⌜ Sifted r (now (pending .entry)) (now (past .entry)) (now (snapshots .entry)) (now (copies .entry)) h ⌝ }
+{
+    if overfull(h) {
+        return true;
+    }
+    if pending_out(pending, h.pending) {
+        return true;
+    }
+    if past_out(past, h.past) {
+        return true;
+    }
+    if copies_out(copies, h.copies) {
+        return true;
+    }
+    let n = h.snapshots;
+    let known = &snapshots[..];
+    !rules::ascending_within(0, h.horizon, &known[..n])
+}
+
 // Two of the entries are of one object; where none are, the index tells the row of each object's entry.
 // No entry ends the loop early: fresh stays 128 until an object comes that has a row already.
-fn met_again(t: &PendingTable, n: usize, index: &mut Index) -> bool
+pub fn met_again(t: &PendingTable, n: usize, index: &mut Index) -> bool
     requires { ⌜ (n ≤ 128) × (length (pendings (now t)) ≡ 128) × (anyB (λ e. leb 512 (e .object)) (take n (pendings (now t))) ≡ false) × (length (now index) ≡ 512) × ((o : ℕ) → getD (now index) o 128 ≡ 128) ⌝ }
     ensures { λ r. ⌜ (r ≡ twiceB (map (λ e. e .object) (take n (pendings (now (t .entry)))))) × (r ≡ false → Indexed (now (index .exit)) (take n (pendings (now (t .entry))))) ⌝ }
 {
@@ -107,21 +136,7 @@ pub fn damaged_or_indexed(
     requires { ⌜ (length (pendings (now pending)) ≡ 128) × (length (pasts (now past)) ≡ 256) × (length (now snapshots) ≡ 64) × (length (copyHeads (now copies)) ≡ 128) × (length (now index) ≡ 512) × ((o : ℕ) → getD (now index) o 128 ≡ 128) ⌝ }
     ensures { λ r. ⌜ ((values stamps copied : List ℕ) → r ≡ model.damaged (contents values stamps (now (pending .entry)) (now (past .entry)) (now (snapshots .entry)) (now (copies .entry)) copied h)) × (r ≡ false → Indexed (now (index .exit)) (take (h .pending) (pendings (now (pending .entry))))) ⌝ }
 {
-    if overfull(h) {
-        return true;
-    }
-    if pending_out(pending, h.pending) {
-        return true;
-    }
-    if past_out(past, h.past) {
-        return true;
-    }
-    if copies_out(copies, h.copies) {
-        return true;
-    }
-    let n = h.snapshots;
-    let known = &snapshots[..];
-    if !rules::ascending_within(0, h.horizon, &known[..n]) {
+    if out_of_range(pending, past, snapshots, copies, h) {
         return true;
     }
     met_again(pending, h.pending, index)
@@ -137,6 +152,13 @@ pub fn damaged(
     requires { ⌜ (length (pendings (now pending)) ≡ 128) × (length (pasts (now past)) ≡ 256) × (length (now snapshots) ≡ 64) × (length (copyHeads (now copies)) ≡ 128) ⌝ }
     ensures { λ r. ⌜ ((values stamps copied : List ℕ) → r ≡ model.damaged (contents values stamps (now (pending .entry)) (now (past .entry)) (now (snapshots .entry)) (now (copies .entry)) copied h)) ⌝ }
 {
+    if out_of_range(pending, past, snapshots, copies, h) {
+        return true;
+    }
+    // One entry alone is no second one.
+    if h.pending < 2 {
+        return false;
+    }
     let mut index = [128u8; 512];
-    damaged_or_indexed(pending, past, snapshots, copies, h, &mut index)
+    met_again(pending, h.pending, &mut index)
 }

@@ -5,10 +5,11 @@ use mathlib.Core.Bool.{Bool, true, false}
 use mathlib.Core.List.{List}
 use lib.ListN.{length}
 use lib.Dec.{ltb}
-use borrow.Author.Tests.{ltb-true, eqb-true, lt-ltb, le-ltb, le-leb, eq-eqb, ne-eqb}
+use borrow.Author.Tests.{ltb-true, eqb-true, le-leb, eq-eqb, ne-eqb}
 use Rattle.model.specs.declared.Answer.{Answer}
 use Rattle.model.specs.declared.Answer.the-variants.{Done, Damaged, Shape, Ahead, NoSnapshot}
 use Rattle.model.specs.Limits.{lastTick}
+use Rattle.model.specs.Lists.{pick}
 use Rattle.model.specs.Store.{Store, page16, objectAt, current, pageAsOf, pageNow}
 use Rattle.model.specs.Damage.{damaged}
 use Rattle.model.specs.Reads.{readShaped, largest, snapshotAnswer, readAt, clockRead, currentRead}
@@ -21,11 +22,7 @@ shaped-is p buffer e =
     (λ t. (ltb-true p 32 t, eqb-true (length buffer) 16 (rw t at e)))
     (λ t. clash (sym (rw t at e)))
 
--- ---- as of a time: where no test before the horizon's fails, it is the snapshots that answer
-pub record Ready (st : Store) (p : ℕ) (buffer : List ℕ) : Type 0 where
-  pub whole : damaged st ≡ false
-  pub shaped : readShaped p buffer ≡ true
-
+-- ---- as of a time
 module _ (st : Store) (good : Bool) (time p : ℕ) (buffer : List ℕ) where
   pub read-damaged : damaged st ≡ true → Read (readAt st good time p buffer) Damaged buffer
   unfolding readAt snapshotAnswer
@@ -35,25 +32,39 @@ module _ (st : Store) (good : Bool) (time p : ℕ) (buffer : List ℕ) where
   unfolding readAt snapshotAnswer
   read-bad d g = rw (d, g) (record { answered = refl; filled = refl })
 
-pub read-misshaped : (st : Store) (time p : ℕ) (buffer : List ℕ) → damaged st ≡ false → readShaped p buffer ≡ false → Read (readAt st true time p buffer) Shape buffer
-unfolding readAt snapshotAnswer
-read-misshaped st time p buffer d r = rw (d, r) (record { answered = refl; filled = refl })
+-- the snapshot that is shown, or 0 where the read is refused, and why it is
+abbrev pub shownBy : ℕ → List ℕ → ℕ → ℕ → List ℕ → ℕ
+shownBy horizon snapshots time p buffer = pick (readShaped p buffer) (pick (ltb horizon time) 0 (largest time snapshots)) 0
 
-module _ {st : Store} {p : ℕ} {buffer : List ℕ} (r : Ready st p buffer) (time : ℕ) where
-  pub read-ahead : st .horizon < time → Read (readAt st true time p buffer) (Ahead (st .horizon)) buffer
-  unfolding readAt snapshotAnswer
-  read-ahead h = rw (r .whole, r .shaped, lt-ltb (st .horizon) time h) (record { answered = refl; filled = refl })
+abbrev pub refused : ℕ → ℕ → ℕ → List ℕ → Answer
+refused horizon time p buffer = pick (readShaped p buffer) (pick (ltb horizon time) (Ahead horizon) NoSnapshot) Shape
 
-  module _ (h : time ≤ st .horizon) {s : ℕ} (e : s ≡ largest time (st .snapshots)) where
-    pub read-none : s ≡ 0 → Read (readAt st true time p buffer) NoSnapshot buffer
+module _ (st : Store) (time p : ℕ) (buffer : List ℕ) {s : ℕ} (e : s ≡ shownBy (st .horizon) (st .snapshots) time p buffer) where
+  pub shown-shaped : (s ≡ 0 → ⊥) → (p < 32) × (length buffer ≡ 16)
+  shown-shaped z = by-test (readShaped p buffer) (λ t. shaped-is p buffer t) (λ t. absurd (z (rw t at e)))
+
+  module _ (d : damaged st ≡ false) where
+    pub read-refused : s ≡ 0 → {a : Answer} → a ≡ refused (st .horizon) time p buffer → Read (readAt st true time p buffer) a buffer
     unfolding readAt snapshotAnswer
-    read-none z =
-        rw (r .whole, r .shaped, le-ltb (st .horizon) time h, ← e, eq-eqb s 0 z) (record { answered = refl; filled = refl })
+    read-refused z f =
+        by-test (readShaped p buffer)
+        (λ t. by-test (ltb (st .horizon) time)
+        (λ u. rw (d, t, u) (record { answered = rw (t, u) at f; filled = refl }))
+        (λ u.
+        let g : s ≡ largest time (st .snapshots) = rw (t, u) at e in
+        rw (d, t, u, ← g, eq-eqb s 0 z) (record { answered = rw (t, u) at f; filled = refl })))
+        (λ t. rw (d, t) (record { answered = rw t at f; filled = refl }))
 
     pub read-done : (s ≡ 0 → ⊥) → {left : List ℕ} → left ≡ pageAsOf st p s → Read (readAt st true time p buffer) (Done s) left
     unfolding readAt snapshotAnswer
     read-done z f =
-        rw (r .whole, r .shaped, le-ltb (st .horizon) time h, ← e, ne-eqb s 0 z) (record { answered = refl; filled = f })
+        by-test (readShaped p buffer)
+        (λ t. by-test (ltb (st .horizon) time)
+        (λ u. absurd (z (rw (t, u) at e)))
+        (λ u.
+        let g : s ≡ largest time (st .snapshots) = rw (t, u) at e in
+        rw (d, t, u, ← g, ne-eqb s 0 z) (record { answered = refl; filled = f })))
+        (λ t. absurd (z (rw t at e)))
 
 -- ---- at a clock tick
 pub clock-in : (st : Store) (tick p : ℕ) (buffer : List ℕ) → tick ≤ lastTick

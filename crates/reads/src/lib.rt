@@ -14,6 +14,9 @@ ghost use mathlib.Core.Bool.{true};
 ghost use mathlib.Core.List.{List};
 ghost use Prim.Native.Nat.{ℕ, _≤_};
 ghost use lib.ListN.{length, take};
+ghost use lib.Dec.{ltb};
+ghost use Rattle.model.specs.declared.Answer.the-variants.{Shape, Ahead, NoSnapshot};
+ghost use Rattle.model.specs.Lists.{pick, risingFrom};
 ghost use Rattle.model.specs.Store.{pageAsOf};
 ghost use Rattle.model.specs.Reads as model;
 ghost use Rattle.model.specs.Reads.{tickOf};
@@ -60,6 +63,33 @@ fn read_shaped(page: u64, buffer: &[u64]) -> bool
     if page < 32 { buffer.len() == 16 } else { false }
 }
 
+// The snapshot that a read of the time shows, or 0 where the read is refused.
+fn shown_by(snapshots: &Snapshots, h: Heads, time: u64, page: u64, buffer: &[u64]) -> u64
+    requires { ⌜ (h .snapshots ≤ 64) × (length (now snapshots) ≡ 64) × (risingFrom 0 (take (h .snapshots) (now snapshots)) ≡ true) ⌝ }
+    ensures { λ r. ⌜ r ≡ pick (model.readShaped page (now (buffer .entry))) (pick (ltb (h .horizon) time) 0 (model.largest time (take (h .snapshots) (now (snapshots .entry))))) 0 ⌝ }
+{
+    if !read_shaped(page, buffer) {
+        return 0;
+    }
+    if h.horizon < time {
+        return 0;
+    }
+    tables::lookups::largest_known(snapshots, h.snapshots, time)
+}
+
+// Why it is refused.
+fn refusal(h: Heads, time: u64, page: u64, buffer: &[u64]) -> Answer
+    ensures { λ r. ⌜ r ≡ pick (model.readShaped page (now (buffer .entry))) (pick (ltb (h .horizon) time) (Ahead (h .horizon)) NoSnapshot) Shape ⌝ }
+{
+    if !read_shaped(page, buffer) {
+        return Answer::Shape;
+    }
+    if h.horizon < time {
+        return Answer::Ahead(h.horizon);
+    }
+    Answer::NoSnapshot
+}
+
 fn read_at(
     disk: &Disk,
     pending: &PendingTable,
@@ -75,19 +105,20 @@ fn read_at(
     requires { ⌜ Laid (now disk) (now disk) (now pending) (now past) (now snapshots) (now copies) (now copied) ⌝ }
     ensures { λ r. ⌜ ((dated : List ℕ) → Read (model.readAt (contents (now (disk .entry)) dated (now (pending .entry)) (now (past .entry)) (now (snapshots .entry)) (now (copies .entry)) (now (copied .entry)) h) true time page (now (buffer .entry))) r (now (buffer .exit))) ⌝ }
 {
-    let mut index = [128u8; 512];
-    if damage::damaged_or_indexed(pending, past, snapshots, copies, h, &mut index) {
+    if damage::out_of_range(pending, past, snapshots, copies, h) {
         return Answer::Damaged;
     }
-    if !read_shaped(page, buffer) {
-        return Answer::Shape;
+    let s = shown_by(snapshots, h, time, page, buffer);
+    // One entry alone is no second one.
+    if s == 0 && h.pending < 2 {
+        return refusal(h, time, page, buffer);
     }
-    if h.horizon < time {
-        return Answer::Ahead(h.horizon);
+    let mut index = [128u8; 512];
+    if damage::met_again(pending, h.pending, &mut index) {
+        return Answer::Damaged;
     }
-    let s = tables::lookups::largest_known(snapshots, h.snapshots, time);
     if s == 0 {
-        return Answer::NoSnapshot;
+        return refusal(h, time, page, buffer);
     }
     show_page(
         disk,
@@ -188,8 +219,11 @@ pub fn current_read(
     ensures { λ r. ⌜ Read (model.currentRead (contents (now (disk .entry)) (now (dated .entry)) (now (pending .entry)) (now (past .entry)) (now (snapshots .entry)) (now (copies .entry)) (now (copied .entry)) h) page (now (buffer .entry))) r (now (buffer .exit)) ⌝ }
 {
     tables::laid(*disk, *dated, *pending, *past, *snapshots, *copies, *copied);
+    if damage::out_of_range(pending, past, snapshots, copies, h) {
+        return Answer::Damaged;
+    }
     let mut index = [128u8; 512];
-    if damage::damaged_or_indexed(pending, past, snapshots, copies, h, &mut index) {
+    if damage::met_again(pending, h.pending, &mut index) {
         return Answer::Damaged;
     }
     if !read_shaped(page, buffer) {
@@ -222,8 +256,7 @@ pub fn standing(
     ensures { λ r. ⌜ (r .answer ≡ model.standing (contents (now (disk .entry)) (now (dated .entry)) (now (pending .entry)) (now (past .entry)) (now (snapshots .entry)) (now (copies .entry)) (now (copied .entry)) h) .answer) × (r .figures ≡ model.standing (contents (now (disk .entry)) (now (dated .entry)) (now (pending .entry)) (now (past .entry)) (now (snapshots .entry)) (now (copies .entry)) (now (copied .entry)) h) .figures) ⌝ }
 {
     tables::laid(*disk, *dated, *pending, *past, *snapshots, *copies, *copied);
-    let mut index = [128u8; 512];
-    if damage::damaged_or_indexed(pending, past, snapshots, copies, h, &mut index) {
+    if damage::damaged(pending, past, snapshots, copies, h) {
         let none = Figures {
             pending: 0,
             past: 0,

@@ -2,109 +2,131 @@
 use Prim.Native.Nat.{ℕ}
 use mathlib.Core.Path.{_≡_, refl, ap, sym, _∙_}
 use mathlib.Core.Bool.{true, false}
-use mathlib.Core.List.{List}
+use mathlib.Core.List.{List, map}
 use lib.ListN.{take}
 use borrow.Author.Needs.{needs}
-use borrow.Author.Tests.{not-true, not-false}
+use borrow.Author.Tests.{ltb-true}
+use Rattle.model.specs.Lists.{twiceB}
 use Rattle.model.specs.Store.{Store}
 use Rattle.model.specs.Damage.{damaged}
-use Rattle.model.specs.Reads.{readShaped, largest}
 use Rattle.tables.specs.Rows.{pendings, upTo}
 use Rattle.tables.specs.Lookups.{Indexed}
 use Rattle.tables.specs.Contents.{contents, Counted}
-use Rattle.reads.proofs.Undamaged.{blank, counts, lookable, known, rising}
-use Rattle.reads.proofs.Answers.{Ready, shaped-is, read-damaged, read-misshaped, read-ahead, read-none, read-done}
+use Rattle.damage.proofs.Laws.{lone}
+use Rattle.reads.proofs.Undamaged.{blank, lookable, known}
+use Rattle.reads.proofs.Answers.{shownBy, shown-shaped, read-damaged, read-refused, read-done}
 use Rattle.reads.proofs.read_at.Statement.{statement}
 use Rattle.reads.proofs.read_at.Tie as tie
 
-abbrev start : tie.After-damaged-or-indexed → tie.Start
-start c = c .before .before .before
-
-abbrev held : tie.After-damaged-or-indexed → List ℕ → Store
+abbrev held : tie.Start → List ℕ → Store
 held c dated =
-    let a = start c .args in
+    let a = c .args in
     contents (a .disk .now) dated (a .pending .now) (a .past .now) (a .snapshots .now) (a .copies .now) (a .copied .now) (a .h)
 
-said : (c : tie.After-damaged-or-indexed) (dated : List ℕ) → c .damaged-or-indexed .result ≡ damaged (held c dated)
-said c dated = let a = start c .args in c .damaged-or-indexed .ensures .0 (a .disk .now) dated (a .copied .now)
+-- past the tests of the ranges, the counts are within their limits, and damage is two entries of one object
+abbrev start : tie.Else1 → tie.Start
+start c = c .before .before .before
 
--- what each test that was passed has said
-spared : (c : tie.Else1) (dated : List ℕ) → damaged (held (c .before) dated) ≡ false
-spared c dated = sym (said (c .before) dated) ∙ c .if1 .left
+fit : (c : tie.Else1) → Counted (start c .args .h)
+fit c = c .before .out-of-range .ensures .counted (c .if1 .left)
 
-fit : (c : tie.Else1) → Counted (start (c .before) .args .h)
-fit c = let s = start (c .before) in counts (s .args .h) (s .pre) (spared c (s .args .disk .now))
+left : (c : tie.Else1) (dated : List ℕ) → let a = start c .args in damaged (held (start c) dated) ≡ twiceB (map (λ e. e .object) (take (a .h .pending) (pendings (a .pending .now))))
+left c dated = let a = start c .args in c .before .out-of-range .ensures .left (c .if1 .left) (a .disk .now) dated (a .copied .now)
 
-told : (c : tie.Else1) → Indexed (c .before .damaged-or-indexed .last .1 .1 .1 .1 .1 .0) (take (start (c .before) .args .h .pending) (pendings (start (c .before) .args .pending .now)))
-told c = c .before .damaged-or-indexed .ensures .1 (c .if1 .left)
-
-abbrev start2 : tie.Else2 → tie.Start
-start2 c = start (c .before .before .before .before)
-
-shaped : (c : tie.Else2) → readShaped (start2 c .args .page) (start2 c .args .buffer .now) ≡ true
-shaped c = sym (c .before .read-shaped .ensures) ∙ not-false _ (c .if2 .left)
-
-ready : (c : tie.Else2) (dated : List ℕ) → Ready (held (c .before .before .before .before) dated) (start2 c .args .page) (start2 c .args .buffer .now)
-ready c dated = record { whole = spared (c .before .before .before) dated; shaped = shaped c }
-
-found : (c : tie.After-largest-known)
-    → let a = start2 (c .before .before .before) .args in c .largest-known .result ≡ largest (a .time) (upTo 0 (a .h .snapshots) (a .snapshots .now))
-found c =
-    let s = start2 (c .before .before .before) in
+-- the snapshot that is shown, by the model
+shown : (c : tie.After-shown-by)
+    → let a = start (c .before .before) .args in c .shown-by .result ≡ shownBy (a .h .horizon) (upTo 0 (a .h .snapshots) (a .snapshots .now)) (a .time) (a .page) (a .buffer .now)
+shown c =
+    let s = start (c .before .before) in
     let a = s .args in
-    c .largest-known .ensures ∙ ap (largest (a .time)) (sym (known (a .h) (s .pre) (spared (c .before .before .before .before .before .before) (a .disk .now))))
+    c .shown-by .ensures ∙ ap (λ ks. shownBy (a .h .horizon) ks (a .time) (a .page) (a .buffer .now)) (sym (known (s .pre) (fit (c .before .before))))
 
-damaged-or-indexed-requires : tie.Need-damaged-or-indexed-requires
-damaged-or-indexed-requires c κs = let l = c .before .before .pre in (l .pending-rows, l .past-rows, l .snapshot-words, l .copy-rows, refl, blank)
+-- past the index each object has one entry
+abbrev asked : tie.Else4 → tie.After-shown-by
+asked c = c .before .before .before .before
+
+abbrev start4 : tie.Else4 → tie.Start
+start4 c = start (asked c .before .before)
+
+single : (c : tie.Else4) → let a = start4 c .args in twiceB (map (λ e. e .object) (take (a .h .pending) (pendings (a .pending .now)))) ≡ false
+single c = sym (c .before .met-again .ensures .0) ∙ c .if4 .left
+
+spared : (c : tie.Else4) (dated : List ℕ) → damaged (held (start4 c) dated) ≡ false
+spared c dated = left (asked c .before .before) dated ∙ single c
+
+told : (c : tie.Else4) → Indexed (c .before .met-again .last .1 .1 .0) (take (start4 c .args .h .pending) (pendings (start4 c .args .pending .now)))
+told c = c .before .met-again .ensures .1 (c .if4 .left)
+
+out-of-range-requires : tie.Need-out-of-range-requires
+out-of-range-requires c κs = search needs
 
 returns : tie.Need-returns
 returns c dated =
-    let a = start (c .before) .args in
-    read-damaged (held (c .before) dated) true (a .time) (a .page) (a .buffer .now) (sym (said (c .before) dated) ∙ c .if1 .taken)
+    let s = c .before .before .before in
+    let a = s .args in
+    read-damaged (held s dated) true (a .time) (a .page) (a .buffer .now) (c .before .out-of-range .ensures .hit (c .if1 .taken) (a .disk .now) dated (a .copied .now))
 
-read-shaped-requires : tie.Need-read-shaped-requires
-read-shaped-requires c κs = search needs
+shown-by-requires : tie.Need-shown-by-requires
+shown-by-requires c κs =
+    let e = c .before in
+    (fit e .snapshot-count, start e .pre .snapshot-words, e .before .out-of-range .ensures .rising (e .if1 .left))
+
+refusal-requires : tie.Need-refusal-requires
+refusal-requires c κs = search needs
 
 same-length : tie.Need-same-length
 same-length c = search needs
 
 returns-2 : tie.Need-returns-2
 returns-2 c dated =
-    let e = c .before .before .before in
-    let a = start (e .before) .args in
-    read-misshaped (held (e .before) dated) (a .time) (a .page) (a .buffer .now) (spared e dated) (sym (c .before .read-shaped .ensures) ∙ not-true _ (c .if2 .taken))
+    let t = c .before .before in
+    let b = t .before .before .before in
+    let e = b .before .before in
+    let a = start e .args in
+    read-refused (held (start e) dated) (a .time) (a .page) (a .buffer .now) (shown b)
+    (left e dated ∙ lone (a .h .pending) (pendings (a .pending .now)) (ltb-true (a .h .pending) 2 (t .if3 .taken)))
+    (t .before .before .if2 .taken) (c .refusal .ensures)
+
+met-again-requires : tie.Need-met-again-requires
+met-again-requires c κs =
+    let e = c .before .before .before .before in
+    (fit e .pending-count, start e .pre .pending-rows, e .before .out-of-range .ensures .low (e .if1 .left), refl, blank)
 
 same-length-2 : tie.Need-same-length-2
 same-length-2 c = search needs
 
 returns-3 : tie.Need-returns-3
-returns-3 c dated = let r = c .before .before in read-ahead (ready r dated) (start2 r .args .time) (c .if3 .taken)
+returns-3 c dated =
+    let e = c .before .before .before .before .before .before in
+    let a = start e .args in
+    read-damaged (held (start e) dated) true (a .time) (a .page) (a .buffer .now) (left e dated ∙ sym (c .before .met-again .ensures .0) ∙ c .if4 .taken)
 
-largest-known-requires : tie.Need-largest-known-requires
-largest-known-requires c κs =
-    let e = c .before .before .before .before .before in
-    let s = start (e .before) in
-    (fit e .snapshot-count, s .pre .snapshot-words, rising (s .args .h) (s .pre) (spared e (s .args .disk .now)))
+refusal-requires-2 : tie.Need-refusal-requires-2
+refusal-requires-2 c κs = search needs
 
 same-length-3 : tie.Need-same-length-3
 same-length-3 c = search needs
 
 returns-4 : tie.Need-returns-4
 returns-4 c dated =
-    let r = c .before .before .before .before in
-    read-none (ready r dated) (start2 r .args .time) (c .before .before .if3 .left) (found (c .before)) (c .if4 .taken)
+    let t = c .before .before in
+    let g = t .before in
+    let a = start4 g .args in
+    read-refused (held (start4 g) dated) (a .time) (a .page) (a .buffer .now) (shown (asked g)) (spared g dated) (t .if5 .taken) (c .refusal2 .ensures)
 
 slice-aggregate-show-page : tie.Need-slice-aggregate-show-page
-slice-aggregate-show-page c = sym (told (c .before .before .before .before .before .before .before .before) .objects-in)
+slice-aggregate-show-page c = sym (told (c .before .before) .objects-in)
 
 show-page-requires : tie.Need-show-page-requires
 show-page-requires c κs =
-    let r = c .before .before .before .before .before .before in
-    let e = r .before .before .before in
-    let a = start2 r .args in
-    let l = start2 r .pre in
-    let q = shaped-is (a .page) (a .buffer .now) (shaped r) in
-    (lookable (a .h) l (spared e (a .disk .now)) (a .page) (q .0), (told e, (fit e .copy-count, l .copy-rows, l .copied-words, q .1)))
+    let f = c .before .before in
+    let g = f .before in
+    let s = start4 g in
+    let a = s .args in
+    let k = fit (asked g .before .before) in
+    let l = s .pre in
+    let q = shown-shaped (held s (a .disk .now)) (a .time) (a .page) (a .buffer .now) (shown (asked g)) (f .if5 .left) in
+    (lookable l k (single g) (a .page) (q .0), (told g, (k .copy-count, l .copy-rows, l .copied-words, q .1)))
 
 same-length-4 : tie.Need-same-length-4
 same-length-4 c = search needs
@@ -112,22 +134,25 @@ same-length-4 c = search needs
 returns-5 : tie.Need-returns-5
 returns-5 c dated =
     let f = c .before .before .before .before .before in
-    let r = f .before .before .before .before in
-    let a = start2 r .args in
-    read-done (ready r dated) (a .time) (f .before .before .if3 .left) (found (f .before)) (f .if4 .left) (c .before .before .show-page .ensures dated (a .snapshots .now))
+    let g = f .before in
+    let a = start4 g .args in
+    read-done (held (start4 g) dated) (a .time) (a .page) (a .buffer .now) (shown (asked g)) (spared g dated) (f .if5 .left)
+    (c .before .before .show-page .ensures dated (a .snapshots .now))
 
 pub read-at-spec : {M : Type 1} → statement M
 read-at-spec =
     tie.close
     (tie.spec
-    damaged-or-indexed-requires
+    out-of-range-requires
     returns
-    read-shaped-requires
+    shown-by-requires
+    refusal-requires
     same-length
     returns-2
+    met-again-requires
     same-length-2
     returns-3
-    largest-known-requires
+    refusal-requires-2
     same-length-3
     returns-4
     slice-aggregate-show-page

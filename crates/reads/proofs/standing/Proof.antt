@@ -1,32 +1,31 @@
 -- Zeros where the tables are damaged, else the counts and the lag.
-use mathlib.Core.Path.{_≡_, refl, sym, _∙_}
+use mathlib.Core.Path.{_≡_, sym, _∙_}
 use mir.Syntax.{w64}
 use mir.ValLaws.{toZ-ofZ}
 use borrow.Author.Needs.{needs}
 use Rattle.model.specs.Store.{Store}
 use Rattle.model.specs.Damage.{damaged}
 use Rattle.tables.specs.Contents.{contents}
-use Rattle.reads.proofs.Undamaged.{blank}
 use Rattle.reads.proofs.Figured.{stood-damaged, stood-whole}
 use Rattle.reads.proofs.standing.Statement.{statement}
 use Rattle.reads.proofs.standing.Tie as tie
 
-abbrev start : tie.After-damaged-or-indexed → tie.Start
-start c = c .before .before .before .before .before .before .before .before .before .before
+abbrev start : tie.After-damaged → tie.Start
+start c = c .before .before .before .before .before .before .before .before .before
 
-abbrev held : tie.After-damaged-or-indexed → Store
+abbrev held : tie.After-damaged → Store
 held c =
     let a = start c .args in
     contents (a .disk .now) (a .dated .now) (a .pending .now) (a .past .now) (a .snapshots .now) (a .copies .now) (a .copied .now) (a .h)
 
-said : (c : tie.After-damaged-or-indexed) → c .damaged-or-indexed .result ≡ damaged (held c)
-said c = let a = start c .args in c .damaged-or-indexed .ensures .0 (a .disk .now) (a .dated .now) (a .copied .now)
+said : (c : tie.After-damaged) → c .damaged .result ≡ damaged (held c)
+said c = let a = start c .args in c .damaged .ensures (a .disk .now) (a .dated .now) (a .copied .now)
 
 laid-requires : tie.Need-laid-requires
 laid-requires c κs = search needs
 
-damaged-or-indexed-requires : tie.Need-damaged-or-indexed-requires
-damaged-or-indexed-requires c κs = let l = c .before .laid .ensures in (l .pending-rows, l .past-rows, l .snapshot-words, l .copy-rows, refl, blank)
+damaged-requires : tie.Need-damaged-requires
+damaged-requires c κs = search needs
 
 returns : tie.Need-returns
 returns c = stood-damaged (held (c .before)) (sym (said (c .before)) ∙ c .if1 .taken)
@@ -42,4 +41,4 @@ returns-2 c =
     (toZ-ofZ w64 (c .lag .result) (record { sfits = c .lag .ok }) ∙ c .lag .ensures)
 
 pub standing-spec : {M : Type 1} → statement M
-standing-spec = tie.close (tie.spec laid-requires damaged-or-indexed-requires returns lag-requires returns-2)
+standing-spec = tie.close (tie.spec laid-requires damaged-requires returns lag-requires returns-2)
