@@ -80,7 +80,7 @@ pub fn commit(
             place: used,
         };
     }
-    let heads = commits::apply_commit(
+    let grown = commits::apply_commit(
         pending,
         past,
         snapshots,
@@ -91,6 +91,7 @@ pub fn commit(
         values,
         &mut index,
     );
+    let heads = commits::heads_after(h, grown);
     let place = used.append_commit(journal, t, objects, values);
     Changed {
         heads,

@@ -1,6 +1,6 @@
 -- One write to the tables: what it displaces, the past value that it adds if live, and the store that it leaves.
 use Prim.Native.Nat.{ℕ, _+_, _≤_, _<_}
-use mathlib.Core.Path.{_≡_, ap, _∙_}
+use mathlib.Core.Path.{_≡_, refl, ap, _∙_}
 use mathlib.Core.Bool.{Bool, true, false}
 use mathlib.Core.List.{List, []}
 use native.Mathlib.Numerals.{add-one}
@@ -115,6 +115,7 @@ module _ {pending : List (List ℕ)} {snapshots : List ℕ} {copies : List (List
             pending-rows = n;
             past-rows = g .past-rows;
             counted = record { pending-count = c .pending-count; past-count = g .count; snapshot-count = c .snapshot-count; copy-count = c .copy-count };
+            same = refl;
           }
 
     -- where it has none
@@ -140,4 +141,5 @@ module _ {pending : List (List ℕ)} {snapshots : List ℕ} {copies : List (List
             pending-rows = n;
             past-rows = k;
             counted = record { pending-count = omega arith; past-count = c .past-count; snapshot-count = c .snapshot-count; copy-count = c .copy-count };
+            same = refl;
           }

@@ -19,7 +19,7 @@ use Rattle.tables.specs.Lookups.{findPending, rowOf, Indexed}
 use Rattle.tables.specs.Contents.{contents, Counted}
 use Rattle.tables.proofs.Searches.{all-at}
 use Rattle.tables.proofs.Counts.{up-to-take}
-use Rattle.commits.specs.Promises.{Ready, OneReady, Room, Applied, Wrote}
+use Rattle.commits.specs.Promises.{Ready, OneReady, Room, Applied, Wrote, grown}
 use Rattle.commits.proofs.Growth.{all-grown}
 use Rattle.commits.proofs.Finding.{pending-taken, row-at, row-none, indexed-over, indexed-new}
 use Rattle.commits.proofs.OneWrite.{new-room}
@@ -55,6 +55,10 @@ snapshots-after {snapshots = snapshots} {h = h} {h′ = h′} w l c =
     let c′ = w .counted in
     sym (up-to-take 0 (h′ .snapshots) snapshots (omega arith)) ∙ ap (λ st. st .snapshots) (w .contains [] [] []) ∙ up-to-take 0 (h .snapshots) snapshots (omega arith)
 
+-- heads with the counts of others
+abbrev counted-as : Heads → Heads → Heads
+counted-as h₀ h = grown h₀ (record { pending = h .pending; last = h₀ .last; past = h .past })
+
 -- ---- what holds before the k-th write, into tables that were pending₀ and past₀, with heads h₀, before the first
 pub record Writing (snapshots : List ℕ) (copies : List (List ℕ)) (t : ℕ) (os vs : List ℕ) (pending₀ past₀ : List (List ℕ)) (h₀ : Heads) (pending past : List (List ℕ)) (index : List ℕ) (h : Heads) (k : ℕ) : Type 0 where
   pub pending-rows : length (pendings pending) ≡ 128
@@ -62,6 +66,7 @@ pub record Writing (snapshots : List ℕ) (copies : List (List ℕ)) (t : ℕ) (
   pub counted : Counted h
   pub rising : risingFrom 0 (take (h .snapshots) snapshots) ≡ true
   pub indexed : Indexed index (take (h .pending) (pendings pending))
+  pub same : h ≡ counted-as h₀ h
   pub left : (disk dated copied : List ℕ)
       → writes (contents disk dated pending past snapshots copies copied h) t (paired (drop k os) (drop k vs))
       ≡ writes (contents disk dated pending₀ past₀ snapshots copies copied h₀) t (paired os vs)
@@ -101,6 +106,7 @@ module _ {pending₀ : List (List ℕ)} {snapshots : List ℕ} {copies : List (L
           counted = record { pending-count = c .pending-count; past-count = c .past-count; snapshot-count = c .snapshot-count; copy-count = c .copy-count };
           rising = r .rising;
           indexed = r .indexed;
+          same = refl;
           left = λ disk dated copied. refl;
         }
 
@@ -134,6 +140,7 @@ module _ {pending₀ : List (List ℕ)} {snapshots : List ℕ} {copies : List (L
               counted = q .counted;
               rising = rw (snapshots-after q (r .snapshot-words) (w .counted)) (w .rising);
               indexed = rw (pending-after q (w .pending-rows) (w .counted)) x;
+              same = q .same ∙ ap (λ k. counted-as k h′) (w .same);
               left = λ disk dated copied.
                   rw (q .contains disk dated copied) (sym (writes-turn (contents disk dated pending past snapshots copies copied h) t os vs k b m) ∙ w .left disk dated copied);
             }
@@ -148,11 +155,11 @@ module _ {pending₀ : List (List ℕ)} {snapshots : List ℕ} {copies : List (L
                 let z : length entries ≤ 128 = simp length-take (omega arith) in
                 next (indexed-new (getD os k 0) t (getD vs k 0) (pendings pending) (h .pending) (w .indexed) (omega arith) n (row-none (getD os k 0) entries z e l) (object-low k b))
 
-      pub writing-end : length os ≤ k → Applied pending₀ past₀ pending past snapshots copies h₀ h t (paired os vs)
+      pub writing-end : length os ≤ k → Applied pending₀ past₀ pending past snapshots copies h₀ (grown h₀ (record { pending = h .pending; last = t; past = h .past })) t (paired os vs)
       unfolding lastAt
-      writing-end b = record {
+      writing-end b = subst (λ k. Applied pending₀ past₀ pending past snapshots copies h₀ k t (paired os vs)) (w .same) (record {
         contains = λ disk dated copied. sym (writes-end (contents disk dated pending past snapshots copies copied h) t os vs k b) ∙ w .left disk dated copied;
         pending-rows = w .pending-rows;
         past-rows = w .past-rows;
         counted = w .counted;
-      }
+      })

@@ -13,6 +13,7 @@ use Rattle.tables.specs.declared.Heads.{Heads}
 use Rattle.tables.specs.Rows.{pastOf, pendings, pasts, copyHeads, upTo}
 use Rattle.tables.specs.Lookups.{findPending, rowOf, Indexed}
 use Rattle.tables.specs.Contents.{contents, Counted}
+use Rattle.commits.specs.declared.Grown.{Grown}
 use Rattle.commits.specs.Rows.{liveBy}
 
 -- whole tables, counts within them, ascending snapshots, a well-formed list of objects, and an index of the entries
@@ -48,13 +49,18 @@ pub record Applied (pending past pending′ past′ : List (List ℕ)) (snapshot
   pub past-rows : length (pasts past′) ≡ 256
   pub counted : Counted h′
 
--- the same of one write
+-- the heads h with the counts and the last commit that a commit leaves
+abbrev pub grown : Heads → Grown → Heads
+grown h g = record { pending = g .pending; past = g .past; snapshots = h .snapshots; copies = h .copies; horizon = h .horizon; last = g .last }
+
+-- the same of one write, which moves the two counts alone
 pub record Wrote (pending past pending′ past′ : List (List ℕ)) (snapshots : List ℕ) (copies : List (List ℕ)) (h h′ : Heads) (t o v : ℕ) : Type 0 where
   pub contains : (disk dated copied : List ℕ)
       → contents disk dated pending′ past′ snapshots copies copied h′ ≡ writeOne (contents disk dated pending past snapshots copies copied h) t o v
   pub pending-rows : length (pendings pending′) ≡ 128
   pub past-rows : length (pasts past′) ≡ 256
   pub counted : Counted h′
+  pub same : h′ ≡ grown h (record { pending = h′ .pending; last = h .last; past = h′ .past })
 
 -- what the past values hold once one is added if live, and their count
 abbrev pub pastWith : List (List ℕ) → List ℕ → List (List ℕ) → List ℕ → Heads → Past → List Past

@@ -22,7 +22,7 @@ ghost use Rattle.tables.specs.Rows.{pendings, pasts, copyHeads};
 ghost use Rattle.tables.specs.Lookups.{findPending, rowOf, Indexed};
 ghost use Rattle.tables.specs.Contents.{contents, Counted};
 ghost use Rattle.commits.specs.Rows.{trues, newIn, liveBy, displacesIn};
-ghost use Rattle.commits.specs.Promises.{Ready, OneReady, Room, Applied, Wrote, Added, pastWith};
+ghost use Rattle.commits.specs.Promises.{Ready, OneReady, Room, Applied, Wrote, Added, pastWith, grown};
 
 // The larger of two stamps.
 fn later(a: u64, b: u64) -> u64
@@ -204,6 +204,28 @@ fn write_one(
     after
 }
 
+// What a commit moves of the heads. The two counts don't stand side by side: the compiler would read them as one word of twice the
+// size, which has to wait until both are stored.
+pub struct Grown {
+    pub pending: usize,
+    pub last: u64,
+    pub past: usize,
+}
+
+// The heads that a commit leaves.
+pub fn heads_after(h: Heads, g: Grown) -> Heads
+    ensures { λ r. ⌜ r ≡ grown h g ⌝ }
+{
+    Heads {
+        pending: g.pending,
+        past: g.past,
+        snapshots: h.snapshots,
+        copies: h.copies,
+        horizon: h.horizon,
+        last: g.last,
+    }
+}
+
 // The commit's writes, in their order. The judge has accepted them, so there is room. The index follows the entries.
 pub fn apply_commit(
     pending: &mut PendingTable,
@@ -215,10 +237,10 @@ pub fn apply_commit(
     objects: &[u64],
     values: &[u64],
     index: &mut Index,
-) -> Heads
+) -> Grown
     requires { ⌜ Ready (now pending) (now snapshots) (now copies) h (now objects) (now index) ⌝ }
     requires { ⌜ (length (pasts (now past)) ≡ 256) × (length (now values) ≡ length (now objects)) × ((disk dated copied : List ℕ) → Room (commitStore (contents disk dated (now pending) (now past) (now snapshots) (now copies) copied h) t (paired (now objects) (now values)))) ⌝ }
-    ensures { λ r. ⌜ Applied (now (pending .entry)) (now (past .entry)) (now (pending .exit)) (now (past .exit)) (now (snapshots .entry)) (now (copies .entry)) h r t (paired (now (objects .entry)) (now (values .entry))) ⌝ }
+    ensures { λ r. ⌜ Applied (now (pending .entry)) (now (past .entry)) (now (pending .exit)) (now (past .exit)) (now (snapshots .entry)) (now (copies .entry)) h (grown h r) t (paired (now (objects .entry)) (now (values .entry))) ⌝ }
     ensures { λ r. ⌜ Indexed (now (index .exit)) (take (r .pending) (pendings (now (pending .exit)))) ⌝ }
 {
     let mut after = h;
@@ -245,5 +267,9 @@ pub fn apply_commit(
             index[at] = new as u8;
         }
     }
-    after
+    Grown {
+        pending: after.pending,
+        last: t,
+        past: after.past,
+    }
 }

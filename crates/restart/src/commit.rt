@@ -45,7 +45,7 @@ fn carry(
             heads: h,
         };
     }
-    let heads = commits::apply_commit(
+    let grown = commits::apply_commit(
         pending,
         past,
         snapshots,
@@ -56,6 +56,7 @@ fn carry(
         values,
         index,
     );
+    let heads = commits::heads_after(h, grown);
     Replayed {
         accepted: true,
         heads,

@@ -212,17 +212,22 @@ apply-commit-requires c κs =
       ),
     )
 
+heads-after-requires : tie.Need-heads-after-requires
+heads-after-requires c κs = search needs
+
 append-commit-requires : tie.Need-append-commit-requires
-append-commit-requires c κs = let e = c .before .before .before .before .before in (even (back3 (back4 e)), short (back3 (back4 e)), accepted e .fits)
+append-commit-requires c κs = let e = c .before .before .before .before .before .before in (even (back3 (back4 e)), short (back3 (back4 e)), accepted e .fits)
 
 same-length-4 : tie.Need-same-length-4
 same-length-4 c = search needs
 
 returns-5 : tie.Need-returns-5
 returns-5 c =
-    let e = c .before .before .before .before .before .before .before .before in
+    let e = c .before .before .before .before .before .before .before .before .before in
     let a = start3 (back4 e) .args in
-    left-done (passed (back4 e)) (judged (e .before .before)) (settles (e .before .before)) (zero e) (c .before .before .before .before .apply-commit .ensures .0 .contains (a .disk .now) (a .dated .now) (a .copied .now)) (c .before .before .append-commit .ensures)
+    let h = c .before .before .before .before in
+    let w = h .before .apply-commit .ensures .0 .contains (a .disk .now) (a .dated .now) (a .copied .now) in
+    left-done (passed (back4 e)) (judged (e .before .before)) (settles (e .before .before)) (zero e) (rw (h .heads-after .ensures) w) (c .before .before .append-commit .ensures)
 
 pub commit-spec : {M : Type 1} → statement M
 commit-spec =
@@ -246,6 +251,7 @@ commit-spec =
     same-length-3
     returns-4
     apply-commit-requires
+    heads-after-requires
     append-commit-requires
     same-length-4
     returns-5)

@@ -47,17 +47,21 @@ apply-commit-requires c κs =
       (s .pre .0 .past-rows, s .pre .1 .1 .1, commit-room (a .t) (a .objects .now) (a .values .now) (s .pre .0) (s .pre .1 .1 .1) (j .judge-commit .ensures) (yes e)),
     )
 
+heads-after-requires : tie.Need-heads-after-requires
+heads-after-requires c κs = search needs
+
 returns-2 : tie.Need-returns-2
 returns-2 c =
-    let e = c .before .before .before .before in
+    let w = c .before in
+    let e = w .before .before .before .before in
     let j = judged (e .before) in
     let s = start j in
     let a = s .args in (
-      commit-yes (a .t) (a .objects .now) (a .values .now) (s .pre .0) (s .pre .1 .1 .1) (j .judge-commit .ensures) (yes e) (c .apply-commit .ensures .0),
-      c .apply-commit .ensures .1,
+      rw (c .heads-after .ensures) (commit-yes (a .t) (a .objects .now) (a .values .now) (s .pre .0) (s .pre .1 .1 .1) (j .judge-commit .ensures) (yes e) (w .apply-commit .ensures .0)),
+      rw (c .heads-after .ensures) (w .apply-commit .ensures .1),
     )
 
 pub carry-spec : {M : Type 1} → statement M
 carry-spec =
     tie.close
-    (tie.spec judge-commit-requires accepts-requires returns apply-commit-requires returns-2)
+    (tie.spec judge-commit-requires accepts-requires returns apply-commit-requires heads-after-requires returns-2)
