@@ -27,8 +27,8 @@ fn told(before: &[u8], n: u64, done: Changed) {
     prints::end();
 }
 
-// The calls of `four` in order, each from where the last one left.
-fn calls(
+// Commit 100 of 0 = 7 and 17 = 3 on a fresh store, and gossip 0, 110, {105}.
+fn commit_and_hear(
     disk: &mut Disk,
     dated: &mut Disk,
     pending: &mut PendingTable,
@@ -37,7 +37,7 @@ fn calls(
     copies: &mut CopyTable,
     copied: &mut Copied,
     journal: &mut [u8],
-) -> usize {
+) -> Changed {
     let a = changes::committing::commit(
         disk,
         dated,
@@ -70,6 +70,21 @@ fn calls(
         &[105],
     );
     told(b"gossip to ", 110, b);
+    b
+}
+
+// Flush 0, and commit 120 of 0 = 9, from where the last call left.
+fn flush_and_commit(
+    disk: &mut Disk,
+    dated: &mut Disk,
+    pending: &mut PendingTable,
+    past: &mut PastTable,
+    snapshots: &mut Snapshots,
+    copies: &mut CopyTable,
+    copied: &mut Copied,
+    journal: &mut [u8],
+    left: Changed,
+) -> usize {
     let c = changes::flushing::flush(
         disk,
         dated,
@@ -78,9 +93,9 @@ fn calls(
         snapshots,
         copies,
         copied,
-        b.heads,
+        left.heads,
         journal,
-        b.place,
+        left.place,
         0,
     );
     told(b"flush ", 0, c);
@@ -104,7 +119,7 @@ fn calls(
     place.at
 }
 
-// All three kinds of record: commit 100 of 0 = 7 and 17 = 3, gossip 0, 110, {105}, flush 0, commit 120 of 0 = 9.
+// All three kinds of record, four of them.
 pub fn four(journal: &mut [u8]) -> usize {
     let mut disk = [0u64; 512];
     let mut dated = [0u64; 512];
@@ -113,7 +128,7 @@ pub fn four(journal: &mut [u8]) -> usize {
     let mut snapshots = [0u64; 64];
     let mut copies = [[0u64; 2]; 128];
     let mut copied = [0u64; 2048];
-    calls(
+    let left = commit_and_hear(
         &mut disk,
         &mut dated,
         &mut pending,
@@ -122,6 +137,17 @@ pub fn four(journal: &mut [u8]) -> usize {
         &mut copies,
         &mut copied,
         journal,
+    );
+    flush_and_commit(
+        &mut disk,
+        &mut dated,
+        &mut pending,
+        &mut past,
+        &mut snapshots,
+        &mut copies,
+        &mut copied,
+        journal,
+        left,
     )
 }
 
