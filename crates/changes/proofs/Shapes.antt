@@ -1,20 +1,16 @@
--- The Shape and Twice tests of a call, and what a change that passes them is known by.
-use Prim.Native.Nat.{ℕ, _+_, _*_, _≤_}
+-- The Shape test of a call, and what a change that passes it is known by.
+use Prim.Native.Nat.{ℕ, _≤_}
 use mathlib.Core.Path.{_≡_, refl, sym}
 use mathlib.Core.Bool.{Bool, true, false}
 use mathlib.Core.List.{List}
 use native.Mathlib.Omega.{arith}
 use lib.ListN.{length}
-use lib.Dec.{leb, eqb}
-use borrow.Author.Tests.{leb-true, eqb-true}
-use Rattle.model.specs.Lists.{both, twiceB, risingFrom}
-use Rattle.model.specs.Changes.{commit, objectsOf, paired}
-use Rattle.model.specs.Judgement.{objectsShaped, stampsShaped, twice}
-use Rattle.model.specs.Records.{lengthOf}
+use lib.Dec.{leb}
+use borrow.Author.Tests.{leb-true}
+use Rattle.model.specs.Lists.{both, risingFrom}
+use Rattle.model.specs.Judgement.{stampsShaped}
 use Rattle.model.specs.Calls.{journalShaped}
-use Rattle.tables.proofs.Cases.{by-test, clash}
-use Rattle.journal.proofs.Places.{paired-length}
-use Rattle.journal.proofs.Walks.{paired-objects}
+use Rattle.tables.proofs.Cases.{clash}
 
 pub both-split : (a b : Bool) → both a b ≡ true → (a ≡ true) × (b ≡ true)
 both-split true b e = (refl, e)
@@ -44,13 +40,7 @@ formed good j used shape e =
     let n = leb-true used (length j) (c .1) in
     record { makes = b .0; placed = omega arith; shaped = a .1 }
 
--- ---- lists in shape are short, and the stamps ascend
-pub objects-short : (os : List ℕ) → objectsShaped os ≡ true → length os ≤ 16
-unfolding objectsShaped
-objects-short os e =
-    let a = both-split (both (leb 1 (length os)) (leb (length os) 16)) _ e in
-    leb-true (length os) 16 (both-split (leb 1 (length os)) _ (a .0) .1)
-
+-- ---- stamps in shape are few, and ascend
 pub stamps-short : (prev curr : ℕ) (stamps : List ℕ) → stampsShaped prev curr stamps ≡ true → length stamps ≤ 16
 unfolding stampsShaped
 stamps-short prev curr stamps e =
@@ -62,15 +52,3 @@ unfolding stampsShaped
 stamps-rise prev curr stamps e =
     let a = both-split (both (leb (length stamps) 16) (leb prev curr)) _ e in
     both-split (risingFrom prev stamps) _ (a .1) .0
-
--- ---- a commit by its two lists: where they are of unequal number no test of the pairs counts
-module _ (os vs : List ℕ) where
-  pub commit-formed : (b : Bool) → both (both (eqb (length os) (length vs)) b) (objectsShaped (objectsOf (paired os vs))) ≡ both (both (eqb (length os) (length vs)) b) (objectsShaped os)
-  commit-formed b = by-test (eqb (length os) (length vs)) (λ e. rw (paired-objects os vs (eqb-true (length os) (length vs) e))) (λ e. rw e)
-
-  module _ (e : length os ≡ length vs) (t : ℕ) where
-    pub commit-twice : twice (commit t (paired os vs)) ≡ twiceB os
-    commit-twice = rw (paired-objects os vs e)
-
-    pub commit-length : lengthOf (commit t (paired os vs)) ≡ 10 + 10 * length os
-    commit-length = rw (paired-length os vs e)

@@ -1,8 +1,10 @@
--- What an undamaged store gives of whole tables: counts within them, copies of pages in range, one entry an object, and known snapshots that ascend up to the horizon.
+-- What an undamaged store gives of whole tables: counts within them, copies of pages in range, one entry an object, and known snapshots that ascend up to the horizon. And damage where
+-- there are no entries.
 use Prim.Native.Nat.{ℕ}
-use mathlib.Core.Path.{_≡_, refl, _∙_}
+use mathlib.Core.Path.{_≡_, refl, sym, _∙_}
 use mathlib.Core.Bool.{Bool, true, false, not}
 use mathlib.Core.List.{List, map}
+use native.Mathlib.Omega.{arith}
 use lib.ListN.{take}
 use lib.Dec.{ltb, leb}
 use borrow.Author.Tests.{not-false}
@@ -15,7 +17,8 @@ use Rattle.tables.proofs.Bridges.{pages-in}
 use Rattle.tables.proofs.Cases.{by-test, clash}
 use Rattle.rules.proofs.Laws.{within}
 use Rattle.changes.proofs.Shapes.{both-split}
-use Rattle.damage.proofs.Laws.{overCount, counted, damaged-over, damaged-is, tested, objectsOf}
+use Rattle.damage.specs.Sifted.{Sifted}
+use Rattle.damage.proofs.Laws.{overCount, counted, damaged-over, damaged-is, tested, objectsOf, lone}
 
 pub record Undamaged (pending : List (List ℕ)) (snapshots : List ℕ) (copies : List (List ℕ)) (h : Heads) : Type 0 where
   pub counted : Counted h
@@ -49,3 +52,10 @@ module _ (values stamps : List ℕ) (pending past : List (List ℕ)) (snapshots 
       let n = none-tested (damaged-is values stamps pending past snapshots copies copied h (l .pending-rows) (l .past-rows) (l .snapshot-words) (l .copy-rows) t ∙ e) in
       let w = both-split (risingFrom 0 (take (h .snapshots) snapshots)) _ (not-false (within 0 (h .horizon) (take (h .snapshots) snapshots)) (n .1)) in
       record { counted = counted h t; pages-in = pages-in (h .copies) (copyHeads copies) copied (n .0); single = n .2; rising = w .0; known = w .1 })
+
+  -- without entries the tests of the ranges are all there are
+  pub none-damaged : {out : Bool} → Sifted out pending past snapshots copies h → h .pending ≡ 0 → damaged (contents values stamps pending past snapshots copies copied h) ≡ out
+  none-damaged {out} s e =
+      by-test out
+      (λ t. s .hit t values stamps copied ∙ sym t)
+      (λ t. s .left t values stamps copied ∙ lone (h .pending) (pendings pending) (omega arith) ∙ sym t)

@@ -19,7 +19,7 @@ ghost use Rattle.tables.specs.Contents.{contents};
 ghost use Rattle.changes.specs.Left.{Left};
 
 // The lists and the journal have a shape that a commit can have.
-fn commit_shaped(journal: &[u8], used: Place, objects: &[u64], values: &[u64]) -> bool
+pub fn commit_shaped(journal: &[u8], used: Place, objects: &[u64], values: &[u64]) -> bool
     ensures { λ r. ⌜ r ≡ both (both (eqb (length (now (objects .entry))) (length (now (values .entry)))) (journalShaped (now (journal .entry)) (used .at))) (objectsShaped (now (objects .entry))) ⌝ }
 {
     if objects.len() != values.len() {
@@ -49,6 +49,23 @@ pub fn commit(
     ensures { λ r. ⌜ Left (commitCall (contents (now (disk .entry)) (now (dated .entry)) (now (pending .entry)) (now (past .entry)) (now (snapshots .entry)) (now (copies .entry)) (now (copied .entry)) h) (now (journal .entry)) (used .at) t (now (objects .entry)) (now (values .entry))) (r .answer) (contents (now (disk .entry)) (now (dated .entry)) (now (pending .exit)) (now (past .exit)) (now (snapshots .entry)) (now (copies .entry)) (now (copied .entry)) (r .heads)) (now (journal .exit)) (r .place .at) ⌝ }
 {
     tables::laid(*disk, *dated, *pending, *past, *snapshots, *copies, *copied);
+    if h.pending == 0 {
+        return crate::adding::commit_all_new(
+            disk,
+            dated,
+            pending,
+            past,
+            snapshots,
+            copies,
+            copied,
+            h,
+            journal,
+            used,
+            t,
+            objects,
+            values,
+        );
+    }
     let mut index = [128u8; 512];
     if damage::damaged_or_indexed(pending, past, snapshots, copies, h, &mut index) {
         return Changed {

@@ -12,11 +12,11 @@ use Rattle.model.specs.Changes.{put}
 use Rattle.tables.specs.declared.Heads.{Heads}
 use Rattle.tables.specs.declared.Found.{Found}
 use Rattle.tables.specs.declared.Found.the-variants.{At, Nothing}
-use Rattle.tables.specs.Rows.{pendingOf, pendingAt, pendings, upTo}
+use Rattle.tables.specs.Rows.{pendingOf, pendingAt, pendings, upTo, touched}
 use Rattle.tables.specs.Lookups.{firstAt, findPending, rowOf, Indexed}
 use Rattle.tables.specs.Contents.{Counted}
 use Rattle.tables.proofs.Counts.{up-to-take}
-use Rattle.tables.proofs.Bridges.{touched, opened, found-below, put-at, put-next}
+use Rattle.tables.proofs.Bridges.{opened, found-below, put-at, put-next}
 use Rattle.tables.proofs.Indexing.{by-found, index-more}
 
 -- the entries that a store holds are the first rows of the table

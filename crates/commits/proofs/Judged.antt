@@ -13,17 +13,18 @@ use Rattle.model.specs.declared.Answer.the-variants.{Late, PendingFull, PastFul
 use Rattle.model.specs.declared.Verdict.{Verdict}
 use Rattle.model.specs.declared.Verdict.the-variants.{Accepted, Idle, Refused}
 use Rattle.model.specs.Answers.{codeOf}
-use Rattle.model.specs.Lists.{pick, either}
+use Rattle.model.specs.Lists.{pick, either, twiceB}
 use Rattle.model.specs.Store.{Store}
 use Rattle.model.specs.Changes.{Write, paired, lastAt, commitStore}
 use Rattle.model.specs.Judgement.{judgeCommit}
 use Rattle.tables.specs.declared.Heads.{Heads}
 use Rattle.tables.specs.Rows.{pendingOf, pastOf, pendings, pasts, upTo}
-use Rattle.tables.specs.Contents.{contents}
+use Rattle.tables.specs.Contents.{contents, Counted}
 use Rattle.tables.proofs.Cases.{by-test}
 use Rattle.tables.proofs.Counts.{up-to-length}
 use Rattle.commits.specs.Rows.{trues, newIn, liveBy, displacesIn}
 use Rattle.commits.specs.Promises.{Ready, Room}
+use Rattle.commits.proofs.AllNew.{opened-length, commit-new, none-pending}
 use Rattle.commits.proofs.Growth.{pending-growth, past-growth}
 use Rattle.commits.proofs.Finding.{pending-taken}
 
@@ -114,6 +115,27 @@ module _ {pending : List (List ℕ)} {snapshots : List ℕ} {copies : List (List
             let x = left-pending disk dated past copied vs l in
             let y = left-past disk dated past copied vs l in
             say-accepted (before disk dated past copied vs l) t (paired os vs) (omega arith) (omega arith) (omega arith) (omega (arith, d copied))
+
+-- ---- the same where no entry is pending, whatever the tables
+module _ (h : Heads) (t : ℕ) where
+  abbrev SaysNew : Verdict → Type 0
+  SaysNew v = (disk dated : List ℕ) (pending past : List (List ℕ)) (snapshots : List ℕ) (copies : List (List ℕ)) (copied os vs : List ℕ) → length vs ≡ length os → length os ≤ 16 → twiceB os ≡ false
+      → v ≡ judgeCommit (contents disk dated pending past snapshots copies copied h) t (paired os vs)
+
+  module _ {latest : ℕ} (late : latest ≡ max (h .last) (h .horizon)) where
+    pub new-late : t ≤ latest → SaysNew (Refused (Late latest))
+    new-late b disk dated pending past snapshots copies copied os vs l s d =
+        ap (λ n. Refused (Late n)) late ∙ say-late (contents disk dated pending past snapshots copies copied h) t (paired os vs) (omega arith)
+
+    -- there is room for at most 16 entries, and no past value is added
+    pub new-accepted : h .pending ≡ 0 → Counted h → latest < t → SaysNew Accepted
+    unfolding lastAt
+    new-accepted e c b disk dated pending past snapshots copies copied os vs l s d =
+        let st = contents disk dated pending past snapshots copies copied h in
+        let a = commit-new t os vs st (none-pending pending h e) d in
+        let p : length (commitStore st t (paired os vs) .pending) ≤ 128 = rw a (omega (arith, opened-length t os vs)) in
+        let q : length (commitStore st t (paired os vs) .past) ≤ 256 = rw (a, up-to-length (pastOf []) (h .past) (pasts past)) (c .past-count) in
+        say-accepted st t (paired os vs) (omega arith) (omega arith) p q
 
 -- ---- what a verdict tells
 abbrev Told : Store → ℕ → List Write → Verdict → Type 0

@@ -1,4 +1,5 @@
 pub mod Distinct
+pub mod AllNew
 pub mod Growth
 pub mod Counting
 pub mod Finding

@@ -13,12 +13,12 @@ use Rattle.model.specs.Store.{some, lookup, liveB}
 use Rattle.model.specs.Changes.{closed, writeOne}
 use Rattle.tables.specs.declared.Heads.{Heads}
 use Rattle.tables.specs.declared.Found.the-variants.{At, Nothing}
-use Rattle.tables.specs.Rows.{pendingOf, pastOf, pendings, pasts, copyHeads, copiesOf, pendingAt, upTo}
+use Rattle.tables.specs.Rows.{pendingOf, pastOf, pendings, pasts, copyHeads, copiesOf, pendingAt, upTo, touched}
 use Rattle.tables.specs.Lookups.{findPending}
 use Rattle.tables.specs.Contents.{contents, Counted}
 use Rattle.tables.proofs.Copies.{noCopy, copies-of-length}
 use Rattle.tables.proofs.Counts.{up-to-take, up-to-length}
-use Rattle.tables.proofs.Bridges.{touched, opened, put-row, put-next, lookup-row, lookup-none}
+use Rattle.tables.proofs.Bridges.{opened, put-row, put-next, lookup-row, lookup-none}
 use Rattle.commits.specs.Rows.{oneIf, newB, newIn, liveBy, displacesIn}
 use Rattle.commits.specs.Promises.{OneReady, Room, Wrote, Added, pastWith}
 use Rattle.commits.proofs.Growth.{put-length}
@@ -103,7 +103,7 @@ module _ {pending : List (List ℕ)} {snapshots : List ℕ} {copies : List (List
       unfolding writeOne
       over-room m copied = rw (z, x) (rw (as-taken, entry-at l) at (m [] [] copied .past-room))
 
-      pub wrote-over : {pending′ past′ : List (List ℕ)} {n : ℕ} → Added past past′ snapshots copies h n q → pendings pending′ ≡ set (pendings pending) row (touched e t v)
+      pub wrote-over : {pending′ past′ : List (List ℕ)} {n : ℕ} → Added past past′ snapshots copies h n q → pendings pending′ ≡ set (pendings pending) row (touched entry t v)
           → Wrote pending past pending′ past′ snapshots copies h (record { pending = h .pending; past = n; snapshots = h .snapshots; copies = h .copies; horizon = h .horizon; last = h .last }) t o v
       unfolding writeOne
       wrote-over {pending′} g w =

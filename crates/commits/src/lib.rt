@@ -10,12 +10,12 @@ use tables::PastTable;
 use tables::PendingTable;
 use tables::Snapshots;
 ghost use mathlib.Core.Path.{_≡_};
-ghost use mathlib.Core.Bool.{true};
+ghost use mathlib.Core.Bool.{true, false};
 ghost use mathlib.Core.List.{List, map};
 ghost use Prim.Native.Nat.{ℕ, _≤_, _<_, max};
 ghost use lib.ListN.{length, take};
 ghost use Rattle.model.specs.declared.Pending.{Pending};
-ghost use Rattle.model.specs.Lists.{risingFrom};
+ghost use Rattle.model.specs.Lists.{risingFrom, twiceB};
 ghost use Rattle.model.specs.Changes.{paired, closed, writeOne, commitStore};
 ghost use Rattle.model.specs.Judgement.{judgeCommit};
 ghost use Rattle.tables.specs.Rows.{pendings, pasts, copyHeads};
@@ -184,13 +184,7 @@ fn write_one(
     if row < 128 {
         let e = tables::pending_at(pending, row);
         after.past = add_live(past, snapshots, copies, h, close(e, object, t));
-        let new = Pending {
-            object: e.object,
-            first: e.first,
-            latest: t,
-            value,
-        };
-        tables::put_pending(pending, row, new);
+        tables::rewrite_pending(pending, row, t, value);
         return after;
     }
     let new = Pending {
@@ -271,5 +265,48 @@ pub fn apply_commit(
         pending: after.pending,
         last: t,
         past: after.past,
+    }
+}
+
+// What the store says of a commit where no entry is pending: Late, or accepted. Every write is a new entry, there is room for
+// them all, and nothing is displaced.
+pub fn judge_all_new(h: Heads, t: u64) -> Verdict
+    requires { ⌜ (h .pending ≡ 0) × Counted h ⌝ }
+    ensures { λ r. ⌜ ((disk dated : List ℕ) (pending past : List (List ℕ)) (snapshots : List ℕ) (copies : List (List ℕ)) (copied os vs : List ℕ) → length vs ≡ length os → length os ≤ 16 → twiceB os ≡ false → r ≡ judgeCommit (contents disk dated pending past snapshots copies copied h) t (paired os vs)) ⌝ }
+{
+    let newest = later(h.last, h.horizon);
+    if t <= newest {
+        return Verdict::Refused(Answer::Late(newest));
+    }
+    Verdict::Accepted
+}
+
+// Its writes, each a new entry.
+pub fn add_all(
+    pending: &mut PendingTable,
+    h: Heads,
+    t: u64,
+    objects: &[u64],
+    values: &[u64],
+) -> Grown
+    requires { ⌜ (length (pendings (now pending)) ≡ 128) × (h .pending ≡ 0) × Counted h ⌝ }
+    requires { ⌜ (length (now objects) ≤ 16) × (length (now values) ≡ length (now objects)) × (twiceB (now objects) ≡ false) ⌝ }
+    ensures { λ r. ⌜ ((disk dated : List ℕ) (past : List (List ℕ)) (snapshots : List ℕ) (copies : List (List ℕ)) (copied : List ℕ) → contents disk dated (now (pending .exit)) past snapshots copies copied (grown h r) ≡ commitStore (contents disk dated (now (pending .entry)) past snapshots copies copied h) t (paired (now (objects .entry)) (now (values .entry)))) ⌝ }
+{
+    let mut k: usize = 0;
+    while k < objects.len() {
+        let new = Pending {
+            object: objects[k],
+            first: t,
+            latest: t,
+            value: values[k],
+        };
+        tables::put_pending(pending, k, new);
+        k += 1;
+    }
+    Grown {
+        pending: k,
+        last: t,
+        past: h.past,
     }
 }

@@ -16,10 +16,11 @@ use Rattle.model.specs.Changes.{ofPage, buried, staysB, copiesAfter, flushStore
 use Rattle.tables.specs.Rows.{pasts}
 use Rattle.tables.specs.Lookups.{wantedB, staysBy}
 use Rattle.tables.proofs.Cases.{by-test}
+use Rattle.tables.proofs.Keeping.{kept-append}
 use Rattle.tables.proofs.Searches.{both-left}
 use Rattle.tables.proofs.Bridges.{kept-same}
 use Rattle.flushes.specs.Parts.{staysAt, Holding}
-use Rattle.flushes.proofs.Turns.{kept-append, kept-mapped}
+use Rattle.flushes.proofs.Turns.{kept-mapped}
 
 -- ---- the tests that the code makes in turn
 module _ (p m h : ℕ) (known : List ℕ) (q : Past) where

@@ -1,4 +1,4 @@
--- A loop from the first row to the last: the next row, a row put behind others, rows counted and rows added; and filters of joined lists.
+-- A loop from the first row to the last: the next row, a row put behind others, rows counted and rows added; and a filter of mapped ones.
 use Prim.Native.Nat.{ℕ, _+_, _≤_, _<_}
 use mathlib.Core.Path.{_≡_, refl, ap, sym, _∙_}
 use mathlib.Core.Bool.{Bool, true, false}
@@ -23,10 +23,6 @@ module _ {A : Type 0} where
   all-added l k h e =
       let q = sym (append-nil (take k l)) ∙ e in
       (q, sym (length-take-le k l h) ∙ ap length q)
-
-  pub kept-append : (f : A → Bool) (l m : List A) → kept f (l ++ m) ≡ kept f l ++ kept f m
-  kept-append f [] m = refl
-  kept-append f (x ∷ xs) m = let ih = kept-append f xs m in by-test (f x) (λ e. rw (e, ih)) (λ e. rw (e, ih))
 
 pub kept-mapped : {A B : Type 0} (f : B → Bool) (g : A → Bool) (b : A → B) (l : List A)
     → kept f (map b (kept g l)) ≡ map b (kept (λ x. both (g x) (f (b x))) l)

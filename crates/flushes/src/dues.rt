@@ -57,7 +57,50 @@ fn find_dues(
     k
 }
 
-// Of the snapshots from low to high, which have known ones behind them, those that are due.
+// Of the snapshots from low to high, which have known ones behind them, those that are due, with room for sixteen ages of each.
+fn list_within(
+    disk: &Disk,
+    dated: &Disk,
+    pending: &PendingTable,
+    past: &PastTable,
+    snapshots: &Snapshots,
+    h: Heads,
+    page: u64,
+    share: Share,
+    row_numbers: &[u8; 256],
+    entry_numbers: &[u8; 128],
+    low: usize,
+    high: usize,
+    ages: &mut [u64],
+    due: &mut [u64; 64],
+) -> usize
+    requires { ⌜ Lookable (now disk) (now dated) (now pending) (now past) h page ⌝ }
+    requires { ⌜ Shared (now pending) (now past) h page share (now «row_numbers») (now «entry_numbers») ⌝ }
+    requires { ⌜ (h .snapshots ≤ 64) × (length (now snapshots) ≡ 64) × (length (now due) ≡ 64) × (high < h .snapshots) × (risingFrom 0 (take (h .snapshots) (now snapshots)) ≡ true) ⌝ }
+    requires { ⌜ (low < high) × (16 * (high - low) ≤ length (now ages)) ⌝ }
+    ensures { λ r. ⌜ (r ≤ high - low) × (length (now (due .exit)) ≡ 64) ⌝ }
+    ensures { λ r. ⌜ ((m : ℕ) → ((i : ℕ) → low ≤ i → i < high → m < getD (now (snapshots .entry)) i 0) → ListedTo (seenIn (now (disk .entry)) (now (dated .entry)) (now (pending .entry)) (now (past .entry)) h) page m (take (h .snapshots) (now (snapshots .entry))) low (max low high) (take r (now (due .exit)))) ⌝ }
+{
+    let known = &snapshots[..];
+    shares::many::look_at_all(
+        disk,
+        dated,
+        pending,
+        past,
+        h,
+        share,
+        row_numbers,
+        entry_numbers,
+        page,
+        true,
+        &known[low + 1..high + 1],
+        ages,
+        0,
+    );
+    find_dues(snapshots, low, high, ages, due)
+}
+
+// The same where there are any. Most often there are few, and a small room is soon filled with zeros.
 fn list_between(
     disk: &Disk,
     dated: &Disk,
@@ -82,24 +125,42 @@ fn list_between(
     if high <= low {
         return 0;
     }
-    let mut ages = [0u64; 1024];
-    let known = &snapshots[..];
-    shares::many::look_at_all(
+    if high - low <= 8 {
+        let mut few = [0u64; 128];
+        return list_within(
+            disk,
+            dated,
+            pending,
+            past,
+            snapshots,
+            h,
+            page,
+            share,
+            row_numbers,
+            entry_numbers,
+            low,
+            high,
+            &mut few,
+            due,
+        );
+    }
+    let mut many = [0u64; 1024];
+    list_within(
         disk,
         dated,
         pending,
         past,
+        snapshots,
         h,
+        page,
         share,
         row_numbers,
         entry_numbers,
-        page,
-        true,
-        &known[low + 1..high + 1],
-        &mut ages,
-        0,
-    );
-    find_dues(snapshots, low, high, &ages, due)
+        low,
+        high,
+        &mut many,
+        due,
+    )
 }
 
 // Lists the due snapshots; the result is their count. None up to the mark is due, and none at or behind the newest stamp that

@@ -59,14 +59,15 @@ pub fn settle(
     let mut i: usize = 0;
     let mut k: usize = 0;
     while i < n {
-        let e = tables::pending_at(pending, i);
+        let from = i;
+        let e = tables::pending_at(pending, from);
         i += 1;
         if crate::rows::of_page(e, page) {
             let at = e.object as usize;
             disk[at] = e.value;
             dated[at] = e.latest;
         } else {
-            tables::put_pending(pending, k, e);
+            tables::move_pending(pending, from, k);
             k += 1;
         }
     }

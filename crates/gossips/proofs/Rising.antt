@@ -11,7 +11,7 @@ use borrow.Author.Tests.{lt-ltb, le-ltb, lt-leb, ltb-true, leb-true}
 use Rattle.model.specs.Lists.{allB, kept, risingFrom}
 use Rattle.tables.proofs.Cases.{by-test}
 use Rattle.tables.proofs.Searches.{both-left, both-right}
-use Rattle.tables.proofs.Rising.{first-beyond, rest-rises, rises-low}
+use Rattle.tables.proofs.Rising.{first-beyond, rest-rises, rising-beyond, rises-low}
 
 -- the others ascend from the bound too
 others-low : (p x : ℕ) (xs : List ℕ) → risingFrom p (x ∷ xs) ≡ true → risingFrom p xs ≡ true
@@ -43,17 +43,12 @@ module _ (u p : ℕ) (xs : List ℕ) (i : ℕ) (h : i < length xs) (r : risingFr
   rest-all = all-beyond u (drop i xs) tail-rises
 
 -- ---- up to a stamp within the bound
-later : (lo : ℕ) (xs : List ℕ) (i : ℕ) → i < length xs → risingFrom lo xs ≡ true → lo < getD xs i 0
-later lo [] i h r = absurd (omega arith)
-later lo (x ∷ xs) zero h r = first-beyond lo x xs r
-later lo (x ∷ xs) (suc i) h r = omega (arith, first-beyond lo x xs r, later x xs i (omega arith) (rest-rises lo x xs r))
-
 pub none-beyond : (u p : ℕ) (xs : List ℕ) (i : ℕ) → i < length xs → risingFrom p xs ≡ true → getD xs i 0 ≤ u → kept (ltb u) xs ≡ kept (ltb u) (drop (suc i) xs)
 none-beyond u p [] i h r b = absurd (omega arith)
 none-beyond u p (x ∷ xs) zero h r b = rw (le-ltb u x b)
 none-beyond u p (x ∷ xs) (suc i) h r b =
     let o = rest-rises p x xs r in
-    let l = later x xs i (omega arith) o in
+    let l = rising-beyond x xs o i (omega arith) in
     rw (le-ltb u x (omega arith)) (none-beyond u x xs i (omega arith) o b)
 
 -- ---- those beyond a horizon, behind those up to it

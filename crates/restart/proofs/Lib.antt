@@ -4,4 +4,5 @@ pub mod Fronts
 pub mod Standing
 pub mod Turning
 pub mod Holding
+pub mod Following
 pub mod Walking

@@ -5,6 +5,7 @@ use mathlib.Core.Bool.{Bool, true, false}
 use mathlib.Core.List.{List}
 use lib.ListN.{length, take, replicate}
 use lib.Dec.{ltb, leb}
+use Rattle.model.specs.declared.Pending.{Pending}
 use Rattle.model.specs.declared.Verdict.{Verdict}
 use Rattle.model.specs.declared.Verdict.the-variants.{Accepted, Idle, Refused}
 use Rattle.model.specs.Lists.{pick, allB, risingFrom}
@@ -13,9 +14,11 @@ use Rattle.model.specs.Changes.{Change, flush, after}
 use Rattle.model.specs.Judgement.{judge}
 use Rattle.model.specs.Records.{Step, end, short, malformed, whole, stepAt}
 use Rattle.journal.specs.declared.walk.Record.{Record}
+use Rattle.journal.specs.declared.walk.Record.the-variants.{Commit, Gossip, Flush}
 use Rattle.journal.specs.Heads.{headOf}
 use Rattle.tables.specs.declared.Heads.{Heads}
 use Rattle.tables.specs.Rows.{pendings, pasts, copyHeads}
+use Rattle.tables.specs.Lookups.{Indexed}
 use Rattle.tables.specs.Contents.{contents, Laid, Counted}
 use Rattle.history.proofs.Invariant.{Whole}
 
@@ -68,6 +71,17 @@ abbrev pub acceptedB : Verdict → Bool
 acceptedB Accepted = true
 acceptedB Idle = false
 acceptedB (Refused a) = false
+
+-- whether an index that told the entries' rows, or didn't, does after a record
+abbrev pub indexedAfter : Record → Bool → Bool
+indexedAfter (Commit head) b = true
+indexedAfter (Gossip head) b = b
+indexedAfter (Flush head) b = false
+
+-- a whole index, which tells the entries' rows where it is said to
+pub record Follows (b : Bool) (index : List ℕ) (es : List Pending) : Type 0 where
+  pub objects-in : length index ≡ 512
+  pub tells : b ≡ true → Indexed index es
 
 -- the change is carried out if the store accepts it, and else nothing changes
 pub record Turned (st : Store) (c : Change) (accepted : Bool) (st′ : Store) : Type 0 where

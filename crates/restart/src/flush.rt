@@ -5,15 +5,11 @@ use tables::Copied;
 use tables::CopyTable;
 use tables::Disk;
 use tables::Heads;
-use tables::Index;
 use tables::PastTable;
 use tables::PendingTable;
 use tables::Snapshots;
 ghost use Prim.Native.Nat.{_<_};
-ghost use lib.ListN.{take};
 ghost use Rattle.model.specs.Changes as changes;
-ghost use Rattle.tables.specs.Rows.{pendings};
-ghost use Rattle.tables.specs.Lookups.{Indexed};
 ghost use Rattle.tables.specs.Contents.{contents};
 ghost use Rattle.restart.specs.Turns.{Held, Carried};
 
@@ -26,14 +22,11 @@ pub fn carry(
     copies: &mut CopyTable,
     copied: &mut Copied,
     h: Heads,
-    index: &mut Index,
     page: u64,
 ) -> Replayed
     requires { ⌜ Held (now disk) (now dated) (now pending) (now past) (now snapshots) (now copies) (now copied) h ⌝ }
-    requires { ⌜ Indexed (now index) (take (h .pending) (pendings (now pending))) ⌝ }
     requires { ⌜ page < 32 ⌝ }
     ensures { λ r. ⌜ Carried (contents (now (disk .entry)) (now (dated .entry)) (now (pending .entry)) (now (past .entry)) (now (snapshots .entry)) (now (copies .entry)) (now (copied .entry)) h) (changes.flush page) (r .accepted) (now (disk .exit)) (now (dated .exit)) (now (pending .exit)) (now (past .exit)) (now (snapshots .entry)) (now (copies .exit)) (now (copied .exit)) (r .heads) ⌝ }
-    ensures { λ r. ⌜ Indexed (now (index .exit)) (take (r .heads .pending) (pendings (now (pending .exit)))) ⌝ }
 {
     let mut due = [0u64; 64];
     let mut row_numbers = [0u8; 256];
@@ -73,7 +66,6 @@ pub fn carry(
         &entry_numbers,
         judged.plan,
     );
-    crate::indexing::index_entries(pending, heads.pending, index);
     Replayed {
         accepted: true,
         heads,

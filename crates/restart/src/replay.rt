@@ -12,9 +12,8 @@ use tables::Snapshots;
 ghost use mathlib.Core.Path.{_≡_};
 ghost use lib.ListN.{length, take};
 ghost use Rattle.tables.specs.Rows.{pendings};
-ghost use Rattle.tables.specs.Lookups.{Indexed};
 ghost use Rattle.tables.specs.Contents.{contents};
-ghost use Rattle.restart.specs.Turns.{acceptedB, Held, Carried, Stands, changeAt};
+ghost use Rattle.restart.specs.Turns.{acceptedB, indexedAfter, Follows, Held, Carried, Stands, changeAt};
 
 // Whether the store accepted the record, and the heads after it.
 pub struct Replayed {
@@ -33,7 +32,19 @@ pub fn accepts(verdict: Verdict) -> bool
     }
 }
 
-// The record at a place, told by its head.
+// Whether the index still tells the entries' rows after a record: a commit keeps it up, a message leaves the entries alone, and a
+// flush takes entries out from between others.
+pub fn indexed_after(told: Record, indexed: bool) -> bool
+    ensures { λ r. ⌜ r ≡ indexedAfter told indexed ⌝ }
+{
+    match told {
+        Record::Commit(_) => true,
+        Record::Gossip(_) => indexed,
+        Record::Flush(_) => false,
+    }
+}
+
+// The record at a place, told by its head. The index is made anew where a commit needs it and it doesn't tell the rows.
 pub fn replay(
     disk: &mut Disk,
     dated: &mut Disk,
@@ -43,6 +54,7 @@ pub fn replay(
     copies: &mut CopyTable,
     copied: &mut Copied,
     h: Heads,
+    indexed: bool,
     index: &mut Index,
     journal: &[u8],
     at: usize,
@@ -51,15 +63,16 @@ pub fn replay(
     values: &mut [u64],
 ) -> Replayed
     requires { ⌜ Held (now disk) (now dated) (now pending) (now past) (now snapshots) (now copies) (now copied) h ⌝ }
-    requires { ⌜ Indexed (now index) (take (h .pending) (pendings (now pending))) ⌝ }
+    requires { ⌜ Follows indexed (now index) (take (h .pending) (pendings (now pending))) ⌝ }
     requires { ⌜ Stands (now journal) at told ⌝ }
     requires { ⌜ (length (now objects) ≡ 16) × (length (now values) ≡ 16) ⌝ }
     ensures { λ r. ⌜ Carried (contents (now (disk .entry)) (now (dated .entry)) (now (pending .entry)) (now (past .entry)) (now (snapshots .entry)) (now (copies .entry)) (now (copied .entry)) h) (changeAt (now (journal .entry)) at) (r .accepted) (now (disk .exit)) (now (dated .exit)) (now (pending .exit)) (now (past .exit)) (now (snapshots .exit)) (now (copies .exit)) (now (copied .exit)) (r .heads) ⌝ }
-    ensures { λ r. ⌜ Indexed (now (index .exit)) (take (r .heads .pending) (pendings (now (pending .exit)))) ⌝ }
+    ensures { λ r. ⌜ Follows (indexedAfter told indexed) (now (index .exit)) (take (r .heads .pending) (pendings (now (pending .exit)))) ⌝ }
     ensures { λ _. ⌜ (length (now (objects .exit)) ≡ 16) × (length (now (values .exit)) ≡ 16) ⌝ }
 {
     match told {
         Record::Commit(head) => {
+            crate::indexing::renew(pending, h.pending, indexed, index);
             crate::commit::replay(
                 pending,
                 past,
@@ -86,7 +99,6 @@ pub fn replay(
             copies,
             copied,
             h,
-            index,
             head.page,
         ),
     }

@@ -44,10 +44,11 @@ pub fn walk(
     requires { ⌜ Laid (now disk) (now dated) (now pending) (now past) (now snapshots) (now copies) (now copied) ⌝ }
     ensures { λ r. ⌜ Rebuilt (restart.walk (length (now (journal .entry))) (now (journal .entry)) 1 model.fresh) (r .answer) (contents (now (disk .exit)) (now (dated .exit)) (now (pending .exit)) (now (past .exit)) (now (snapshots .exit)) (now (copies .exit)) (now (copied .exit)) (r .heads)) (r .place .at) ⌝ }
 {
-    let mut heads = crate::empty::wipe(disk, dated);
     let mut index = [128u8; 512];
     let mut objects = [0u64; 16];
     let mut values = [0u64; 16];
+    let mut heads = crate::empty::wipe(disk, dated);
+    let mut indexed = true;
     let mut at: usize = 1;
     loop {
         match journal::reader::read_at(journal, Place { at }) {
@@ -66,6 +67,7 @@ pub fn walk(
                     copies,
                     copied,
                     heads,
+                    indexed,
                     &mut index,
                     journal,
                     at,
@@ -77,6 +79,7 @@ pub fn walk(
                     return crate::empty::start(disk, dated, Answer::Contradiction(at as u64));
                 }
                 heads = r.heads;
+                indexed = crate::replay::indexed_after(record, indexed);
                 at = next.at;
             }
         }

@@ -7,18 +7,10 @@ use native.Mathlib.Omega.{arith}
 use lib.ListN.{length, take, drop, getD, length-take}
 use lib.Seq.{length-take-le, getD-take, getD-drop}
 use Rattle.model.specs.Lists.{risingFrom}
-use Rattle.tables.proofs.Rising.{first-beyond, rest-rises}
+use Rattle.tables.proofs.Rising.{rest-rises, rising-beyond}
 use Rattle.shares.specs.Many.{Ordered, FirstFrom}
 
 -- ---- an ascending list is in order
-rising-beyond : (lo : ℕ) (l : List ℕ) → risingFrom lo l ≡ true → (j : ℕ) → j < length l → lo < getD l j 0
-rising-beyond lo [] a j h = absurd (omega arith)
-rising-beyond lo (x ∷ l) a zero h = first-beyond lo x l a
-rising-beyond lo (x ∷ l) a (suc j) h =
-    let f = first-beyond lo x l a in
-    let ih = rising-beyond x l (rest-rises lo x l a) j (omega arith) in
-    omega arith
-
 pub rising-ordered : (lo : ℕ) (l : List ℕ) → risingFrom lo l ≡ true → Ordered l
 rising-ordered lo [] a i j h k = absurd (omega arith)
 rising-ordered lo (x ∷ l) a zero zero h k = omega arith

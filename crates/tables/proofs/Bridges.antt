@@ -18,14 +18,11 @@ use Rattle.model.specs.Changes.{put}
 use Rattle.tables.specs.declared.CopyHead.{CopyHead}
 use Rattle.tables.specs.declared.Found.{Found}
 use Rattle.tables.specs.declared.Found.the-variants.{At, Nothing}
-use Rattle.tables.specs.Rows.{pendingOf, pendingAt, copiesOf}
+use Rattle.tables.specs.Rows.{pendingOf, pendingAt, touched, copiesOf}
 use Rattle.tables.specs.Lookups.{firstAt, pickFound, findPending, staysBy}
 use Rattle.tables.proofs.Cases.{by-test, clash}
 
 -- ---- the entry at an index, and what a write leaves
-abbrev pub touched : Pending → ℕ → ℕ → Pending
-touched e t v = record { object = e .object; first = e .first; latest = t; value = v }
-
 abbrev pub opened : ℕ → ℕ → ℕ → Pending
 opened o t v = record { object = o; first = t; latest = t; value = v }
 

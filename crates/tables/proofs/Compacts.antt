@@ -1,15 +1,15 @@
 -- One turn of the compaction, on lists, and what it comes to; and one turn of a copy of rows.
 --     starts    nothing is looked at yet
 --     step      row i is looked at: it is put at place k, and k goes on where it is chosen
---     copied    from row j on, a row more is as in the list that is copied
+--     copied    a row more is as in the list that is copied
 use Prim.Native.Nat.{ℕ, zero, suc, _+_, _<_, _≤_}
 use mathlib.Core.Path.{_≡_, refl, sym, _∙_, ap, subst}
 use mathlib.Core.Bool.{Bool, true, false}
 use mathlib.Core.List.{List, [], _∷_, _++_, append-nil, tail-eq-of-cons-eq, head-eq-of-cons-eq}
 use native.Mathlib.Numerals.{add-one}
 use native.Mathlib.Omega.{arith}
-use lib.ListN.{length, take, drop, getD, set, length-set, length-take}
-use lib.Seq.{take-suc, drop-cons, drop-append-le, take-set-le, drop-set-lt, take-suc-set}
+use lib.ListN.{length, take, drop, getD, set, length-set}
+use lib.Seq.{take-suc, drop-cons, take-set-le, drop-set-lt, take-suc-set}
 use Rattle.model.specs.declared.Past.{Past}
 use Rattle.model.specs.Lists.{pick}
 use Rattle.tables.specs.Rows.{pastOf}
@@ -67,9 +67,6 @@ module _ (bs : List Bool) (i : ℕ) (xs zs : List Past) (k : ℕ) (lb : i < leng
     drop-set-lt (suc i) zs k y (omega (arith, c .0)) ∙ tail-eq-of-cons-eq both,
   )
 
-pub copied : {A : Type 0} (ys zs : List A) (j i : ℕ) (d y : A) → j ≤ i → i < length ys → i < length zs → drop j (take i ys) ≡ drop j (take i zs) → y ≡ getD zs i d
-    → drop j (take (i + 1) (set ys i y)) ≡ drop j (take (i + 1) zs)
-copied ys zs j i d y h l m e q =
-    let a : j ≤ length (take i ys) = simp length-take (omega arith) in
-    let b : j ≤ length (take i zs) = simp length-take (omega arith) in
-    rw (add-one, take-suc-set ys i y, take-suc zs i d, drop-append-le j (take i ys) (y ∷ []) a, drop-append-le j (take i zs) (getD zs i d ∷ []) b, e, q)
+pub copied : {A : Type 0} (ys zs : List A) (i : ℕ) (d y : A) → i < length ys → i < length zs → take i ys ≡ take i zs → y ≡ getD zs i d
+    → take (i + 1) (set ys i y) ≡ take (i + 1) zs
+copied ys zs i d y l m e q = rw (add-one, take-suc-set ys i y, take-suc zs i d, e, q)

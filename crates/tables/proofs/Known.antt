@@ -1,8 +1,8 @@
 -- Known snapshots. They ascend, so the last one at or before a time is the largest such; and whether a row is wanted is
--- decided by the last one before its end.
+-- decided by the last one before its end, and by the mark.
 use Prim.Native.Nat.{ℕ, zero, suc, _-_, _<_, _≤_, max}
 use mathlib.Core.Path.{_≡_, refl, sym, ap, _∙_, subst}
-use mathlib.Core.Bool.{Bool, true, false}
+use mathlib.Core.Bool.{Bool, true, false, not}
 use mathlib.Core.List.{List, [], _∷_}
 use native.Mathlib.Omega.{arith}
 use lib.ListN.{length, take, getD}
@@ -12,7 +12,7 @@ use Rattle.model.specs.declared.Past.{Past}
 use Rattle.model.specs.Lists.{both, either, pick, risingFrom}
 use Rattle.model.specs.Reads.{largest}
 use Rattle.tables.specs.Lookups.{lastBefore, wantsB, wantedB}
-use Rattle.tables.proofs.Cases.{by-test}
+use Rattle.tables.proofs.Cases.{by-test, clash}
 use Rattle.tables.proofs.Searches.{both-left, both-right}
 use Rattle.tables.proofs.Rising.{first-beyond, rest-rises}
 
@@ -118,3 +118,23 @@ wanted-last (x ∷ xs) m q =
     ap (either (both (both (leb (q .from) x) (ltb x (q .until))) (ltb m x))) (wanted-last xs m q)
     ∙ one-more (ltb x (q .until)) x (lastBefore xs (q .until)) m q
     ∙ ap (λ k. wantsB k m q) (sym (last-cons x (q .until) xs))
+
+-- ---- a stamp that is wanted beyond 0: the mark decides
+pub wants-some : (s : ℕ) (q : Past) → wantsB s 0 q ≡ true → 0 < s
+wants-some s q w = ltb-true 0 s (both-right (leb (q .from) s) (ltb 0 s) w)
+
+pub wants-none : (s m : ℕ) (q : Past) → wantsB s 0 q ≡ false → wantsB s m q ≡ false
+wants-none s m q w =
+    by-test (wantsB s m q)
+    (λ e.
+    let h = ltb-true m s (both-right (leb (q .from) s) (ltb m s) e) in
+    let y : wantsB s 0 q ≡ true = rw (both-left (leb (q .from) s) (ltb m s) e, lt-ltb 0 s (omega arith)) in
+    clash (sym y ∙ w))
+    (λ e. e)
+
+pub wants-beyond : (s m : ℕ) (q : Past) → wantsB s 0 q ≡ true → wantsB s m q ≡ not (leb s m)
+wants-beyond s m q w =
+    let f = both-left (leb (q .from) s) (ltb 0 s) w in
+    by-test (leb s m)
+    (λ e. rw (f, e, le-ltb m s (leb-true s m e)))
+    (λ e. rw (f, e, lt-ltb m s (leb-false s m e)))

@@ -1,4 +1,4 @@
--- The laws of `[Past; 256]`, `[bool; 256]` and `Front`, for the walks of a lent table.
+-- The laws of `[Past; 16]`, `[bool; 16]` and `Front`, for the walks of a lent table.
 --     R, S                 the arrays' types.    vals, flags: their machine values;  tells, lawful, makes, and the same of flags: their laws
 --     front-is             a `Front` that is made of an array and a number
 --     rows-in, rows-out    a local that holds the rows is the rows in memory, which are lent as a slice, and back
@@ -41,35 +41,35 @@ use Rattle.model.proofs.Past.Laws as T′
 use Rattle.tables.proofs.dropping.Front as F
 
 abbrev pub R : RattleType
-R = Array T.the-row 256
+R = Array T.the-row 16
 
 abbrev pub vals : List Past → List Val
 vals = array-vals (LL.vals T.the-type T′.the-laws)
 
 pub tells : Tells R (Is R) vals
-tells = array-tells T.the-row (LL.vals T.the-type T′.the-laws) (LL.tells T.the-type T′.the-laws) 256
+tells = array-tells T.the-row (LL.vals T.the-type T′.the-laws) (LL.tells T.the-type T′.the-laws) 16
 
 abbrev pub S : RattleType
-S = Array bool 256
+S = Array bool 16
 
 abbrev pub flags : List Bool → List Val
 flags = array-vals bool-vals
 
 pub flag-tells : Tells S (Is S) flags
-flag-tells = array-tells bool bool-vals bool-tells 256
+flag-tells = array-tells bool bool-vals bool-tells 16
 
 module _ {M : Type 1} (𝓤 : URA M) (H : Heap 𝓤) (A : Atoms 𝓤) (W : Given 𝓤 H A) where
   pub lawful : Lawful 𝓤 H A R
-  lawful = array-lawful 𝓤 H A W T.the-row (LL.lawful T.the-type T′.the-laws 𝓤 H A W) 256
+  lawful = array-lawful 𝓤 H A W T.the-row (LL.lawful T.the-type T′.the-laws 𝓤 H A W) 16
 
   pub makes : Makes 𝓤 H A R (Is R)
-  makes = array-makes 𝓤 H A W T.the-row (LL.makes T.the-type T′.the-plain 𝓤 H A) 256
+  makes = array-makes 𝓤 H A W T.the-row (LL.makes T.the-type T′.the-plain 𝓤 H A) 16
 
   pub flag-lawful : Lawful 𝓤 H A S
-  flag-lawful = array-lawful 𝓤 H A W bool (bool-lawful 𝓤 H A W) 256
+  flag-lawful = array-lawful 𝓤 H A W bool (bool-lawful 𝓤 H A W) 16
 
   pub flag-makes : Makes 𝓤 H A S (Is S)
-  flag-makes = array-makes 𝓤 H A W bool (bool-makes 𝓤 H A W) 256
+  flag-makes = array-makes 𝓤 H A W bool (bool-makes 𝓤 H A W) 16
 
 -- an array of records is the array of their tuples
 abbrev Tuple : RattleType
@@ -93,10 +93,10 @@ front-is zs k g fits = ((vals zs, (vint w64 k ∷ [], tt)), (refl, ((g .0, ((g .
 
 -- the arrays' MIR types, as locals have them
 abbrev pub arr : Ty
-arr = tyArray T′.mir 256
+arr = tyArray T′.mir 16
 
 abbrev pub choices : Ty
-choices = tyArray tyBool 256
+choices = tyArray tyBool 16
 
 -- an array of n in a local of the MIR type τ is the row of its elements, and back
 module _ {M : Type 1} (𝓤 : URA M) (H : Heap 𝓤) (A : Atoms 𝓤) (W : Given 𝓤 H A) (E : RattleType) (v : E .Denot → List Val) (t : Tells E (Is E) v) (m : Makes 𝓤 H A E (Is E)) (one : Single (E .mir)) (n : ℕ) (τ : Ty)
@@ -129,18 +129,18 @@ module _ {M : Type 1} (𝓤 : URA M) (H : Heap 𝓤) (A : Atoms 𝓤) (W : Given
 module _ {M : Type 1} (𝓤 : URA M) (H : Heap 𝓤) (A : Atoms 𝓤) (W : Given 𝓤 H A) where
   pub rows-in : (xs : List Past) (l : ℕ) → Is R xs (vals xs) → ent 𝓤 (H .at fullShare arr l 0 (val xs)) (sem 𝓤 H A (cells (mem T.the-row) xs l 0))
   rows-in xs l g = qed W (‵ (fat fullShare arr l 0 (val xs)) ∷ []) ∵ use1 W (‵ (row T.the-row fullShare xs l 0))
-      (row-in 𝓤 H A W T.the-row (LL.vals T.the-type T′.the-laws) (LL.tells T.the-type T′.the-laws) (LL.makes T.the-type T′.the-plain 𝓤 H A) tt 256 arr (λ u l. W .laws .at-raw fullShare arr l 0 u) (λ u l. W .laws .raw-at fullShare arr l 0 u) xs l g) $
+      (row-in 𝓤 H A W T.the-row (LL.vals T.the-type T′.the-laws) (LL.tells T.the-type T′.the-laws) (LL.makes T.the-type T′.the-plain 𝓤 H A) tt 16 arr (λ u l. W .laws .at-raw fullShare arr l 0 u) (λ u l. W .laws .raw-at fullShare arr l 0 u) xs l g) $
       by ! (whole-in 𝓤 H A W T.the-row xs l 0)
 
-  pub rows-out : (xs : List Past) (l : ℕ) → length xs ≡ 256 → ent 𝓤 (sem 𝓤 H A (cells (mem T.the-row) xs l 0)) (guard 𝓤 (Is R xs (vals xs)) (H .at fullShare arr l 0 (val xs)))
+  pub rows-out : (xs : List Past) (l : ℕ) → length xs ≡ 16 → ent 𝓤 (sem 𝓤 H A (cells (mem T.the-row) xs l 0)) (guard 𝓤 (Is R xs (vals xs)) (H .at fullShare arr l 0 (val xs)))
   rows-out xs l e = qed W (‵ (cells (mem T.the-row) xs l 0) ∷ []) ∵ use1 W (‵ (row T.the-row fullShare xs l 0)) (whole-out 𝓤 H A W T.the-row xs l 0) $
-      by ! (row-out 𝓤 H A W T.the-row (LL.vals T.the-type T′.the-laws) (LL.tells T.the-type T′.the-laws) (LL.makes T.the-type T′.the-plain 𝓤 H A) tt 256 arr (λ u l. W .laws .at-raw fullShare arr l 0 u) (λ u l. W .laws .raw-at fullShare arr l 0 u) xs l e)
+      by ! (row-out 𝓤 H A W T.the-row (LL.vals T.the-type T′.the-laws) (LL.tells T.the-type T′.the-laws) (LL.makes T.the-type T′.the-plain 𝓤 H A) tt 16 arr (λ u l. W .laws .at-raw fullShare arr l 0 u) (λ u l. W .laws .raw-at fullShare arr l 0 u) xs l e)
 
   pub flags-in : (bs : List Bool) (l : ℕ) → Is S bs (flags bs) → ent 𝓤 (H .at fullShare choices l 0 (only (flags bs))) (sem 𝓤 H A (row bool fullShare bs l 0))
-  flags-in = row-in 𝓤 H A W bool bool-vals bool-tells (bool-makes 𝓤 H A W) tt 256 choices (λ u l. W .laws .at-raw fullShare choices l 0 u) (λ u l. W .laws .raw-at fullShare choices l 0 u)
+  flags-in = row-in 𝓤 H A W bool bool-vals bool-tells (bool-makes 𝓤 H A W) tt 16 choices (λ u l. W .laws .at-raw fullShare choices l 0 u) (λ u l. W .laws .raw-at fullShare choices l 0 u)
 
-  pub flags-out : (bs : List Bool) (l : ℕ) → length bs ≡ 256 → ent 𝓤 (sem 𝓤 H A (row bool fullShare bs l 0)) (guard 𝓤 (Is S bs (flags bs)) (H .at fullShare choices l 0 (only (flags bs))))
-  flags-out = row-out 𝓤 H A W bool bool-vals bool-tells (bool-makes 𝓤 H A W) tt 256 choices (λ u l. W .laws .at-raw fullShare choices l 0 u) (λ u l. W .laws .raw-at fullShare choices l 0 u)
+  pub flags-out : (bs : List Bool) (l : ℕ) → length bs ≡ 16 → ent 𝓤 (sem 𝓤 H A (row bool fullShare bs l 0)) (guard 𝓤 (Is S bs (flags bs)) (H .at fullShare choices l 0 (only (flags bs))))
+  flags-out = row-out 𝓤 H A W bool bool-vals bool-tells (bool-makes 𝓤 H A W) tt 16 choices (λ u l. W .laws .at-raw fullShare choices l 0 u) (λ u l. W .laws .raw-at fullShare choices l 0 u)
 
 pub far : (n i : ℕ) → i < n → n * 32 < 2 ^ 63 → i * 32 < 2 ^ 64
 far n i l r = omega arith

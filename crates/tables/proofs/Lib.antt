@@ -14,5 +14,5 @@ pub mod Counts
 pub mod Bridges
 pub mod Indexing
 pub mod Compacts
-pub mod Behind
+pub mod Blocks
 pub mod Lent

@@ -3,7 +3,7 @@ use Prim.Native.Nat.{ℕ, zero, suc}
 use mathlib.Core.Path.{_≡_, refl, ap, sym, _∙_}
 use mathlib.Core.List.{List, [], _∷_, map}
 use lib.ListN.{length, getD, set, length-map, List·getD-map}
-use Rattle.tables.specs.Rows.{pendingOf, pastOf, copyHeadOf, pendings, pasts, copyHeads, pendingAt, pastAt, copyHeadAt}
+use Rattle.tables.specs.Rows.{pendingOf, pastOf, copyHeadOf, pendings, pasts, copyHeads, pendingAt, pastAt, copyHeadAt, touched}
 
 pub map-set : {A B : Type 0} (f : A → B) (l : List A) (i : ℕ) (a : A) → map f (set l i a) ≡ set (map f l) i (f a)
 map-set f [] i a = refl
@@ -17,6 +17,13 @@ pending-read rows i = sym (List·getD-map pendingOf rows i [])
 pub pending-put : (rows : List (List ℕ)) (i : ℕ) (w : List ℕ) → pendings (set rows i w) ≡ set (pendings rows) i (pendingOf w)
 unfolding pendings
 pending-put rows i w = map-set pendingOf rows i w
+
+pub pending-move : (rows : List (List ℕ)) (i j : ℕ) → pendings (set rows j (getD rows i [])) ≡ set (pendings rows) j (pendingAt (pendings rows) i)
+pending-move rows i j = pending-put rows j (getD rows i []) ∙ ap (set (pendings rows) j) (pending-read rows i)
+
+pub pending-rewrite : (rows : List (List ℕ)) (i latest value : ℕ)
+    → pendings (set rows i (getD (getD rows i []) 0 0 ∷ getD (getD rows i []) 1 0 ∷ latest ∷ value ∷ [])) ≡ set (pendings rows) i (touched (pendingAt (pendings rows) i) latest value)
+pending-rewrite rows i latest value = pending-put rows i _ ∙ ap (λ e. set (pendings rows) i (touched e latest value)) (pending-read rows i)
 
 pub pendings-length : (rows : List (List ℕ)) (n : ℕ) → length rows ≡ n → length (pendings rows) ≡ n
 unfolding pendings

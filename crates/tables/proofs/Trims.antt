@@ -1,4 +1,4 @@
--- The first n rows without those at their end that don't pass: a turn of the search for how many they are, and what is passed by.
+-- The first n rows without those at their end that don't pass: a turn of the search for how many they are, the last row left, and what is passed by.
 use Prim.Native.Nat.{ℕ, zero, suc, _-_, _<_, _≤_}
 use mathlib.Core.Path.{_≡_, refl, ap, sym, _∙_, subst}
 use mathlib.Core.Bool.{Bool, true, false}
@@ -8,7 +8,7 @@ use lib.ListN.{getD}
 use Rattle.model.specs.Lists.{pick}
 use Rattle.tables.specs.Lookups.{trimmed}
 
-before : (i : ℕ) → suc i - 1 ≡ i
+pub before : (i : ℕ) → suc i - 1 ≡ i
 before i = omega arith
 
 -- what holds of the number picked
@@ -30,6 +30,16 @@ module _ {A : Type 0} (f : A → Bool) (d : A) (l : List A) where
   pub trim-end : (i : ℕ) → i ≤ 0 → 0 ≡ trimmed f d l i
   trim-end zero h = refl
   trim-end (suc i) h = absurd (omega arith)
+
+  -- the last row left passes
+  trim-last : (n : ℕ) → 0 < trimmed f d l n → f (getD l (trimmed f d l n - 1) d) ≡ true
+  trim-last zero h = absurd (omega arith)
+  trim-last (suc n) h =
+      let ih = trim-last n in
+      picked (λ k. 0 < k → f (getD l (k - 1) d) ≡ true) (f (getD l n d)) (suc n) (trimmed f d l n) (λ e g. subst (λ j. f (getD l j d) ≡ true) (sym (before n)) e) (λ e. ih) h
+
+  pub trim-passes : (n : ℕ) {r : ℕ} → r ≡ trimmed f d l n → 0 < r → f (getD l (r - 1) d) ≡ true
+  trim-passes n e = rw e (trim-last n)
 
   -- what no row that doesn't pass changes
   pub trim-keeps : (P : ℕ → Type 0) (n : ℕ) → ((i : ℕ) → i < n → f (getD l i d) ≡ false → P (suc i) → P i) → P n → P (trimmed f d l n)

@@ -42,6 +42,10 @@ pastAt qs i = getD qs i (pastOf [])
 abbrev pub copyHeadAt : List CopyHead → ℕ → CopyHead
 copyHeadAt hs i = getD hs i (copyHeadOf [])
 
+-- an entry with another latest stamp and value
+abbrev pub touched : Pending → ℕ → ℕ → Pending
+touched e t v = record { object = e .object; first = e .first; latest = t; value = v }
+
 -- ---- the first n rows. A count beyond the table shows rows d that aren't there, so that a count always is the length of its contents
 abbrev pub upTo : {A : Type 0} → A → ℕ → List A → List A
 upTo d zero rows = []

@@ -7,7 +7,7 @@ use model::Pending;
 ghost use mathlib.Core.Path.{_≡_};
 ghost use Prim.Native.Nat.{_<_};
 ghost use lib.ListN.{set};
-ghost use Rattle.tables.specs.Rows.{pendings, pasts, copyHeads, pendingAt, pastAt, copyHeadAt};
+ghost use Rattle.tables.specs.Rows.{pendings, pasts, copyHeads, pendingAt, pastAt, copyHeadAt, touched};
 ghost use Rattle.tables.specs.Contents.{Laid};
 
 // A word for each object: the disk's values, and the stamps of the commits that wrote them.
@@ -71,6 +71,25 @@ pub fn put_pending(t: &mut PendingTable, i: usize, e: Pending)
 {
     let row = [e.object, e.first, e.latest, e.value];
     t[i] = row;
+}
+
+// Another latest stamp and value for an entry, which keeps its object and its first stamp.
+pub fn rewrite_pending(t: &mut PendingTable, i: usize, latest: u64, value: u64)
+    requires { ⌜ i < 128 ⌝ }
+    ensures { λ _. ⌜ pendings (now (t .exit)) ≡ set (pendings (now (t .entry))) i (touched (pendingAt (pendings (now (t .entry))) i) latest value) ⌝ }
+{
+    let row = t[i];
+    let new = [row[0], row[1], latest, value];
+    t[i] = new;
+}
+
+// A row to another place of its table.
+pub fn move_pending(t: &mut PendingTable, from: usize, to: usize)
+    requires { ⌜ («from» < 128) × (to < 128) ⌝ }
+    ensures { λ _. ⌜ pendings (now (t .exit)) ≡ set (pendings (now (t .entry))) to (pendingAt (pendings (now (t .entry))) «from») ⌝ }
+{
+    let row = t[from];
+    t[to] = row;
 }
 
 pub fn past_at(t: &PastTable, i: usize) -> Past

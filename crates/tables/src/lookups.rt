@@ -10,11 +10,11 @@ ghost use mathlib.Core.Bool.{true};
 ghost use mathlib.Core.List.{List, []};
 ghost use Prim.Native.Nat.{ℕ, _-_, _≤_, _<_};
 ghost use lib.ListN.{length, take, getD};
-ghost use lib.Dec.{eqb, ltb};
+ghost use lib.Dec.{eqb, ltb, leb};
 ghost use Rattle.model.specs.Lists.{allB, risingFrom};
 ghost use Rattle.model.specs.Store.{mark, pageOf, beyondB, liveB};
 ghost use Rattle.model.specs.Reads.{largest};
-ghost use Rattle.tables.specs.Rows.{pastOf, pasts, copyHeads, copiesOf};
+ghost use Rattle.tables.specs.Rows.{pastOf, pasts, copyHeadOf, copyHeads, copiesOf};
 ghost use Rattle.tables.specs.Lookups.{trimmed, Serving, lastBefore, wantsB, wantedB};
 
 // The largest of the first n snapshots at or before a time, or 0. They ascend, so it is the last of those at or before it.
@@ -59,21 +59,20 @@ fn up_to(snapshots: &Snapshots, n: usize, from: usize, time: u64) -> usize
     k
 }
 
-// The mark of a page by the first n copies.
+// The mark of a page by the first n copies. The other pages' are passed over in a search of their own, which waits for nothing.
 pub fn mark_of(t: &CopyTable, n: usize, page: u64) -> u64
     requires { ⌜ (n ≤ 128) × (length (copyHeads (now t)) ≡ 128) ⌝ }
     ensures { λ r. ⌜ ((words : List ℕ) → r ≡ mark (take n (copiesOf (copyHeads (now (t .entry))) words)) page) ⌝ }
 {
     let mut best: u64 = 0;
-    let mut i = n;
+    let mut i = trimmed_copies(t, n, page);
     while 0 < i {
         i -= 1;
         let c = crate::copy_at(t, i);
-        if c.page == page {
-            if best < c.stamp {
-                best = c.stamp;
-            }
+        if best < c.stamp {
+            best = c.stamp;
         }
+        i = trimmed_copies(t, i, page);
     }
     best
 }
@@ -105,6 +104,22 @@ fn clear(marks: &mut [u64; 32])
         marks[p] = 0;
         p += 1;
     }
+}
+
+// Of the first n copies, those up to the page's last.
+fn trimmed_copies(t: &CopyTable, n: usize, page: u64) -> usize
+    requires { ⌜ n ≤ 128 ⌝ }
+    ensures { λ r. ⌜ (r ≡ trimmed (λ c. eqb (c .page) page) (copyHeadOf []) (copyHeads (now (t .entry))) n) × (r ≤ n) ⌝ }
+{
+    let mut i = n;
+    while 0 < i {
+        let c = crate::copy_at(t, i - 1);
+        if c.page == page {
+            return i;
+        }
+        i -= 1;
+    }
+    0
 }
 
 // Of the first n past rows, those up to the page's last.
@@ -190,6 +205,24 @@ pub fn wanted(q: Past, snapshots: &Snapshots, n: usize, marked: u64) -> bool
     wants(q, last_before(snapshots, n, q.until), marked)
 }
 
+// A page's mark is at a stamp or behind it: some copy of the page is.
+fn archived(t: &CopyTable, n: usize, page: u64, stamp: u64) -> bool
+    requires { ⌜ (n ≤ 128) × (length (copyHeads (now t)) ≡ 128) × (0 < stamp) ⌝ }
+    ensures { λ r. ⌜ ((words : List ℕ) → r ≡ leb stamp (mark (take n (copiesOf (copyHeads (now (t .entry))) words)) page)) ⌝ }
+{
+    let mut i = n;
+    while 0 < i {
+        i -= 1;
+        let c = crate::copy_at(t, i);
+        if c.page == page {
+            if stamp <= c.stamp {
+                return true;
+            }
+        }
+    }
+    false
+}
+
 // A past value is live.
 pub fn live(
     q: Past,
@@ -205,6 +238,9 @@ pub fn live(
     if beyond(q, horizon) {
         return true;
     }
-    let marked = mark_of(copies, n, q.object / 16);
-    wanted(q, snapshots, known, marked)
+    let s = last_before(snapshots, known, q.until);
+    if !wants(q, s, 0) {
+        return false;
+    }
+    !archived(copies, n, q.object / 16, s)
 }

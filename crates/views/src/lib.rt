@@ -12,7 +12,7 @@ ghost use Prim.Native.Nat.{ℕ, _≤_, _<_, _+_};
 ghost use lib.ListN.{length, take, drop, getD, set};
 ghost use lib.Dec.{leb};
 ghost use Rattle.model.specs.Lists.{either, pick, twiceB};
-ghost use Rattle.model.specs.Store.{page16, objectAt, slotOf, pendingSeen, pastSeen};
+ghost use Rattle.model.specs.Store.{page16, objectAt, pageOf, slotOf, pendingSeen, pastSeen};
 ghost use Rattle.tables.specs.Rows.{pendings, pasts};
 ghost use Rattle.tables.specs.Lookups.{Indexed};
 ghost use Rattle.tables.specs.Contents.{contents};
@@ -47,15 +47,13 @@ pub fn sixteen(words: &[u64], at: usize, out: &mut [u64])
     copy_sixteen(&held, 0, out);
 }
 
+// A row of the view's page covers its stamp.
 fn covers(q: Past, v: View) -> bool
+    requires { ⌜ pageOf (q .object) ≡ v .page ⌝ }
     ensures { λ r. ⌜ r ≡ coversB v q ⌝ }
 {
-    if q.object / 16 == v.page {
-        if q.from <= v.stamp {
-            v.stamp < q.until
-        } else {
-            false
-        }
+    if q.from <= v.stamp {
+        v.stamp < q.until
     } else {
         false
     }
@@ -76,7 +74,7 @@ pub fn part(ages: bool, value: u64, stamp: u64) -> u64
 
 // A row that covers puts its word at its slot.
 fn lay_row(q: Past, v: View, out: &mut [u64])
-    requires { ⌜ length (now out) ≡ 16 ⌝ }
+    requires { ⌜ (pageOf (q .object) ≡ v .page) × (length (now out) ≡ 16) ⌝ }
     ensures { λ _. ⌜ now (out .exit) ≡ pick (coversB v q) (set (now (out .entry)) (slotOf (q .object)) (partOf (v .ages) (pastSeen q))) (now (out .entry)) ⌝ }
 {
     if covers(q, v) {

@@ -18,18 +18,18 @@ add-live-requires c κs =
     let m = over-room p (a .past .now) (a .t) (a .value) (c .before .before .before .before .if1 .taken) (c .before .before .pending-at .ensures) (c .close .ensures) (s .pre .1 .1) in
     ((p .snapshot-words, p .copy-rows, p .counted, p .rising), (s .pre .1 .0, m))
 
-put-pending-requires : tie.Need-put-pending-requires
-put-pending-requires c κs = search needs
+rewrite-pending-requires : tie.Need-rewrite-pending-requires
+rewrite-pending-requires c κs = search needs
 
 returns : tie.Need-returns
 returns c =
     let k = c .before .before .before in
     let s = k .before .before .before .before .before in
     let a = s .args in
-    wrote-over (s .pre .0) (a .past .now) (a .t) (a .value) (k .before .before .before .before .if1 .taken) (k .before .before .pending-at .ensures) (k .close .ensures) (c .before .before .add-live .ensures) (c .put-pending .ensures)
+    wrote-over (s .pre .0) (a .past .now) (a .t) (a .value) (k .before .before .before .before .if1 .taken) (k .before .before .pending-at .ensures) (k .close .ensures) (c .before .before .add-live .ensures) (c .rewrite-pending .ensures)
 
-put-pending-requires-2 : tie.Need-put-pending-requires-2
-put-pending-requires-2 c κs =
+put-pending-requires : tie.Need-put-pending-requires
+put-pending-requires c κs =
     let s = c .before .before in
     let a = s .args in
     new-room (s .pre .0) (a .past .now) (a .t) (a .value) (c .before .if1 .left) (s .pre .1 .1)
@@ -43,7 +43,7 @@ returns-2 c =
     let s = e .before in
     let a = s .args in
     let b = new-room (s .pre .0) (a .past .now) (a .t) (a .value) (e .if1 .left) (s .pre .1 .1) in
-    wrote-new (s .pre .0) (a .past .now) (a .t) (a .value) (e .if1 .left) (s .pre .1 .0) b (c .before .put-pending2 .ensures)
+    wrote-new (s .pre .0) (a .past .now) (a .t) (a .value) (e .if1 .left) (s .pre .1 .0) b (c .before .put-pending .ensures)
 
 pub write-one-spec : {M : Type 1} → statement M
 write-one-spec =
@@ -52,8 +52,8 @@ write-one-spec =
     pending-at-requires
     close-requires
     add-live-requires
-    put-pending-requires
+    rewrite-pending-requires
     returns
-    put-pending-requires-2
+    put-pending-requires
     add-after
     returns-2)

@@ -1,13 +1,16 @@
--- From the page's last row to its first, `out` is the past rows passed laid over what it was.
-use Prim.Native.Nat.{_≤_, _-_}
-use mathlib.Core.Path.{_≡_, _∙_}
+-- From the page's last row to its first, `out` is the past rows passed laid over what it was, and the next row is of the page.
+use Prim.Native.Nat.{_≤_, _<_, _-_}
+use mathlib.Core.Path.{_≡_, ap, _∙_}
+use mathlib.Core.Bool.{true}
 use mathlib.Core.List.{[]}
 use lib.ListN.{length, take, drop}
 use lib.Dec.{eqb}
 use borrow.Author.Needs.{needs}
+use borrow.Author.Tests.{eqb-true}
 use Rattle.model.specs.Store.{pageOf, slotOf, pastSeen}
-use Rattle.tables.specs.Rows.{pastOf, pasts}
+use Rattle.tables.specs.Rows.{pastOf, pasts, pastAt}
 use Rattle.tables.proofs.Backward.{Turn, back-start}
+use Rattle.tables.proofs.Trims.{trim-passes}
 use Rattle.views.specs.Views.{partOf, coversB}
 use Rattle.views.proofs.Laying.{pastOver, put-length, lay-more, lay-trimmed, lay-end}
 use Rattle.views.proofs.lay_past.Statement.{statement}
@@ -16,6 +19,7 @@ use Rattle.views.proofs.lay_past.Tie as tie
 abbrev Inv-loop : tie.InvT-loop
 Inv-loop t n v out₀ i₀ out i =
     (i ≤ n) × (length out ≡ 16) × (out ≡ pastOver v (drop i (take n (pasts t))) out₀)
+    × (0 < i → eqb (pageOf (pastAt (pasts t) (i - 1) .object)) (v .page) ≡ true)
 
 abbrev μ-loop : tie.MeasureT-loop
 μ-loop t n v out₀ i₀ out i = i
@@ -32,6 +36,7 @@ loop-holds c =
       search needs,
       lay-trimmed (coversB (a .v)) (λ q. slotOf (q .object)) (λ q. partOf (a .v .ages) (pastSeen q))
           (λ q. eqb (pageOf (q .object)) (a .v .page)) (λ q z. rw z) (pastOf []) ps (a .n) (a .n) (a .out .now) (search needs) (search needs) (c .trimmed-past .ensures .0) s,
+      trim-passes (λ q. eqb (pageOf (q .object)) (a .v .page)) (pastOf []) ps (a .n) (c .trimmed-past .ensures .0),
     )
 
 -- a turn's bounds
@@ -45,7 +50,11 @@ past-at-requires : tie.Need-past-at-requires Inv-loop μ-loop
 past-at-requires c κs = search needs
 
 lay-row-requires : tie.Need-lay-row-requires Inv-loop μ-loop
-lay-row-requires c κs = search needs
+lay-row-requires c κs =
+    let b = c .before .before in (
+      ap (λ q. pageOf (q .object)) (c .before .past-at .ensures) ∙ eqb-true _ _ (b .before .loop .inv .3 (b .loop-test .taken)),
+      search needs,
+    )
 
 trimmed-past-requires-2 : tie.Need-trimmed-past-requires-2 Inv-loop μ-loop
 trimmed-past-requires-2 c κs = search needs
@@ -65,6 +74,7 @@ loop-again c =
       put-length (coversB (a .v) q) (v .out) (slotOf (q .object)) (partOf (a .v .ages) (pastSeen q)) l (v .inv .1),
       lay-trimmed (coversB (a .v)) (λ q. slotOf (q .object)) (λ q. partOf (a .v .ages) (pastSeen q))
           (λ q. eqb (pageOf (q .object)) (a .v .page)) (λ q z. rw z) (pastOf []) ps (a .n) (v .i - 1) (a .out .now) (search needs) (search needs) (c .trimmed-past2 .ensures .0) s,
+      trim-passes (λ q. eqb (pageOf (q .object)) (a .v .page)) (pastOf []) ps (v .i - 1) (c .trimmed-past2 .ensures .0),
     )
 
 same-length : tie.Need-same-length Inv-loop μ-loop

@@ -1,11 +1,9 @@
--- The ages as of the next snapshots tell the due ones, from the first beyond the mark on.
-use Prim.Native.Nat.{_+_, _-_}
+-- Where there are none nothing is listed; else the ages have room for each.
 use native.Mathlib.Omega.{arith}
-use lib.ListN.{take, drop, length-take}
+use lib.ListN.{take}
 use borrow.Author.Needs.{needs}
-use Rattle.shares.proofs.Orders.{part-ordered}
 use Rattle.flushes.specs.Parts.{seenIn}
-use Rattle.flushes.proofs.Listing.{pages-tell, listed-none, listed-high}
+use Rattle.flushes.proofs.Listing.{listed-none}
 use Rattle.flushes.proofs.dues.list_between.Statement.{statement}
 use Rattle.flushes.proofs.dues.list_between.Tie as tie
 
@@ -14,68 +12,36 @@ returns c = let s = c .before in
     let a = s .args in
     ((omega arith, s .pre .1 .1 .2), λ m f. listed-none (seenIn (a .disk .now) (a .dated .now) (a .pending .now) (a .past .now) (a .h)) (a .page) m (take (a .h .snapshots) (a .snapshots .now)) (a .low) (a .high) (c .if1 .taken))
 
-add-look-at-all : tie.Need-add-look-at-all
-add-look-at-all c = search needs
+sub-if2 : tie.Need-sub-if2
+sub-if2 c = search needs
 
-add-look-at-all-2 : tie.Need-add-look-at-all-2
-add-look-at-all-2 c = search needs
+slice-aggregate-list-within : tie.Need-slice-aggregate-list-within
+slice-aggregate-list-within c = search needs
 
-mul-look-at-all : tie.Need-mul-look-at-all
-mul-look-at-all c = search needs
-
-sub-look-at-all : tie.Need-sub-look-at-all
-sub-look-at-all c = search needs
-
-part-look-at-all-start : tie.Need-part-look-at-all-start
-part-look-at-all-start c = search needs
-
-part-look-at-all-end : tie.Need-part-look-at-all-end
-part-look-at-all-end c = search needs
-
-slice-aggregate-look-at-all : tie.Need-slice-aggregate-look-at-all
-slice-aggregate-look-at-all c = search needs
-
-look-at-all-requires : tie.Need-look-at-all-requires
-look-at-all-requires c κs = let s = c .before .before .before .before in
-    let a = s .args in
-    let l = a .snapshots .now in
-    let k = s .pre .1 .1 in
-    let n = a .high + 1 - (a .low + 1) in
-    (s .pre .0, (s .pre .1 .0, (part-ordered (a .h .snapshots) l (k .4) (omega arith) (a .low + 1) n (omega arith), omega (arith, length-take n (drop (a .low + 1) l)))))
-
-slice-aggregate-find-dues : tie.Need-slice-aggregate-find-dues
-slice-aggregate-find-dues c = search needs
-
-find-dues-requires : tie.Need-find-dues-requires
-find-dues-requires c κs = search needs
+list-within-requires : tie.Need-list-within-requires
+list-within-requires c κs = (search needs, (search needs, (search needs, search needs)))
 
 returns-2 : tie.Need-returns-2
-returns-2 c = let s = c .before .before .before .before .before .before .before .before .before in
-    let a = s .args in
-    let l = a .snapshots .now in
-    let k = s .pre .1 .1 in
-    let w = c .before .before .before .before .look-at-all .ensures in
-    let r = c .find-dues .ensures in (
-      r .0,
-      λ m f.
-          listed-high (seenIn (a .disk .now) (a .dated .now) (a .pending .now) (a .past .now) (a .h)) (a .page) m (take (a .h .snapshots) l) (a .low) (a .high) (c .before .before .before .before .before .before .before .before .if1 .left) (take (c .find-dues .result) (c .find-dues .last .1 .1 .1 .1 .0))
-          (r .1 (seenIn (a .disk .now) (a .dated .now) (a .pending .now) (a .past .now) (a .h)) (a .page) m (a .h .snapshots) (omega arith) (k .0)
-          (pages-tell (a .disk .now) (a .dated .now) (a .pending .now) (a .past .now) (a .h) (a .page) m l (a .h .snapshots) (a .low) (a .high) (k .3) (omega arith) f w)),
-    )
+returns-2 c = search needs
+
+slice-aggregate-list-within-2 : tie.Need-slice-aggregate-list-within-2
+slice-aggregate-list-within-2 c = search needs
+
+list-within-requires-2 : tie.Need-list-within-requires-2
+list-within-requires-2 c κs = (search needs, (search needs, (search needs, search needs)))
+
+returns-3 : tie.Need-returns-3
+returns-3 c = search needs
 
 pub list-between-spec : {M : Type 1} → statement M
 list-between-spec =
     tie.close
     (tie.spec
     returns
-    add-look-at-all
-    add-look-at-all-2
-    mul-look-at-all
-    sub-look-at-all
-    part-look-at-all-start
-    part-look-at-all-end
-    slice-aggregate-look-at-all
-    look-at-all-requires
-    slice-aggregate-find-dues
-    find-dues-requires
-    returns-2)
+    sub-if2
+    slice-aggregate-list-within
+    list-within-requires
+    returns-2
+    slice-aggregate-list-within-2
+    list-within-requires-2
+    returns-3)

@@ -82,8 +82,8 @@ loop-again c = let b = c .before .before .before .before .before in
       store-yes (a .page) (λ e. e .latest) P (a .n) (v .i) (v .dated) (v .inv .7) _ h (omega arith) p e,
     )
 
-put-pending-requires : tie.Need-put-pending-requires Inv-loop μ-loop
-put-pending-requires c κs = search needs
+move-pending-requires : tie.Need-move-pending-requires Inv-loop μ-loop
+move-pending-requires c κs = search needs
 
 add-k : tie.Need-add-k Inv-loop μ-loop
 add-k c = search needs
@@ -99,13 +99,13 @@ loop-again-2 c = let b = c .before .before .before .before .before .before .befo
     let h = c .before .before .before .before .before .before .loop-test .taken in
     let p = c .before .before .before .before .pending-at .ensures in
     let e = sym (c .before .before .before .of-page .ensures) ∙ c .before .before .if1 .left in
-    let q = c .put-pending .ensures in (
+    let q = c .move-pending .ensures in (
       omega arith,
       omega arith,
       ap length q ∙ simp length-set (v .inv .2),
       v .inv .3,
       v .inv .4,
-      rw (q, p) (keep-yes (off (a .page)) P (v .k) (v .i) (a .n) _ (v .inv .0) h (omega arith) (ap not (ap (ofPage (a .page)) (sym p) ∙ e)) ∙ v .inv .5),
+      rw q (keep-yes (off (a .page)) P (v .k) (v .i) (a .n) _ (v .inv .0) h (omega arith) (ap not (ap (ofPage (a .page)) (sym p) ∙ e)) ∙ v .inv .5),
       store-no (a .page) (λ e. e .value) P (a .n) (v .i) (v .disk) (v .inv .6) _ h (omega arith) p e (v .k) _ (v .inv .0) q,
       store-no (a .page) (λ e. e .latest) P (a .n) (v .i) (v .dated) (v .inv .7) _ h (omega arith) p e (v .k) _ (v .inv .0) q,
     )
@@ -141,7 +141,7 @@ settle-spec =
     element-write-dated
     loop-less
     loop-again
-    put-pending-requires
+    move-pending-requires
     add-k
     loop-less-2
     loop-again-2

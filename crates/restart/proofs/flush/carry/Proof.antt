@@ -1,11 +1,10 @@
--- The verdict and the writer make the turn of the flush; the store that it leaves is whole, so its entries can be indexed.
+-- The verdict and the writer make the turn of the flush.
 use borrow.Author.Needs.{needs}
-use mathlib.Core.Path.{_≡_, refl, sym, _∙_}
+use mathlib.Core.Path.{_≡_, sym, _∙_}
 use mathlib.Core.Bool.{true}
-use borrow.Author.Tests.{lt-ltb, not-true, not-false}
-use Rattle.history.proofs.Laws.{both-yes}
+use borrow.Author.Tests.{not-true, not-false}
 use Rattle.restart.specs.Turns.{acceptedB}
-use Rattle.restart.proofs.Holding.{flush-held, next-held, held-objects, held-single}
+use Rattle.restart.proofs.Holding.{flush-held}
 use Rattle.restart.proofs.Turning.{flush-room, flush-no, flush-yes}
 use Rattle.restart.proofs.flush.carry.Statement.{statement}
 use Rattle.restart.proofs.flush.carry.Tie as tie
@@ -14,7 +13,7 @@ abbrev start : tie.After-entry-numbers → tie.Start
 start c = c .before .before .before .before .before .before .before .before
 
 judge-flush-requires : tie.Need-judge-flush-requires
-judge-flush-requires c κs = let s = start c in (flush-held (s .pre .0) (s .args .page) (s .pre .1 .1), search needs)
+judge-flush-requires c κs = let s = start c in (flush-held (s .pre .0) (s .args .page) (s .pre .1), search needs)
 
 accepts-requires : tie.Need-accepts-requires
 accepts-requires c κs = search needs
@@ -23,7 +22,7 @@ returns : tie.Need-returns
 returns c =
     let j = c .before .before in
     let s = start (j .before) in
-    (flush-no (s .args .page) (s .pre .0) (j .judge-flush .ensures .0) (sym (c .before .accepts .ensures) ∙ not-true _ (c .if1 .taken)), s .pre .1 .0)
+    flush-no (s .args .page) (s .pre .0) (j .judge-flush .ensures .0) (sym (c .before .accepts .ensures) ∙ not-true _ (c .if1 .taken))
 
 -- the judge said yes
 yes : (c : tie.Else1) → acceptedB (c .before .before .judge-flush .result .verdict) ≡ true
@@ -37,29 +36,16 @@ apply-flush-requires c κs =
     let e = judged c in
     let j = e .before .before in
     let s = start (j .before) in (
-      flush-held (s .pre .0) (s .args .page) (s .pre .1 .1),
+      flush-held (s .pre .0) (s .args .page) (s .pre .1),
       (s .pre .0 .laid .copied-words, j .judge-flush .ensures .1 (s .args .copied .now), flush-room (s .args .page) (s .pre .0) (j .judge-flush .ensures .0) (yes e)),
-    )
-
-index-entries-requires : tie.Need-index-entries-requires
-index-entries-requires c κs =
-    let d = c .before .before in
-    let e = judged (d .before) in
-    let j = e .before .before in
-    let s = start (j .before) in
-    let t = flush-yes (s .args .page) (s .pre .0) (j .judge-flush .ensures .0) (yes e) (d .apply-flush .ensures) in
-    let h = next-held (s .pre .0 .whole) (both-yes (lt-ltb (s .args .page) 32 (s .pre .1 .1)) refl) t in (
-      (t .counted .pending-count, t .laid .pending-rows, s .pre .1 .0 .objects-in),
-      (held-objects h, held-single h),
     )
 
 returns-2 : tie.Need-returns-2
 returns-2 c =
-    let d = c .before .before .before in
-    let e = judged (d .before) in
+    let e = judged (c .before) in
     let j = e .before .before in
     let s = start (j .before) in
-    (flush-yes (s .args .page) (s .pre .0) (j .judge-flush .ensures .0) (yes e) (d .apply-flush .ensures), c .index-entries .ensures)
+    flush-yes (s .args .page) (s .pre .0) (j .judge-flush .ensures .0) (yes e) (c .apply-flush .ensures)
 
 pub carry-spec : {M : Type 1} → statement M
 carry-spec =
@@ -69,5 +55,4 @@ carry-spec =
     accepts-requires
     returns
     apply-flush-requires
-    index-entries-requires
     returns-2)

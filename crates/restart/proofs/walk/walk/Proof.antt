@@ -11,20 +11,21 @@ use Rattle.model.specs.Restart as model
 use Rattle.journal.specs.Heads.{headStep}
 use Rattle.journal.specs.declared.walk.Step.the-variants.{Whole}
 use Rattle.tables.specs.Rows.{pendings}
-use Rattle.tables.specs.Lookups.{Indexed}
+use Rattle.restart.specs.Turns.{Follows}
 use Rattle.restart.proofs.Entered.{blank-at}
 use Rattle.restart.proofs.Standing.{stands}
 use Rattle.restart.proofs.Holding.{fresh-held, fresh-indexed}
+use Rattle.restart.proofs.Following.{follows-as, indexed-follows}
 use Rattle.restart.proofs.Walking.{Walking, moves-on, walked-end, walked-short, walked-malformed, walked-contradicts, walked-on}
 use Rattle.restart.proofs.walk.walk.Statement.{statement}
 use Rattle.restart.proofs.walk.walk.Tie as tie
 
 abbrev Inv-loop : tie.InvT-loop
-Inv-loop disk₀ dated₀ pending₀ past₀ snapshots₀ copies₀ copied₀ journal heads₀ index₀ objects₀ values₀ at₀ disk dated pending past snapshots copies copied heads index objects values at =
-    Walking journal disk dated pending past snapshots copies copied heads at × Indexed index (take (heads .pending) (pendings pending)) × (length objects ≡ 16) × (length values ≡ 16)
+Inv-loop disk₀ dated₀ pending₀ past₀ snapshots₀ copies₀ copied₀ journal index₀ objects₀ values₀ heads₀ indexed₀ at₀ disk dated pending past snapshots copies copied index objects values heads indexed at =
+    Walking journal disk dated pending past snapshots copies copied heads at × Follows indexed index (take (heads .pending) (pendings pending)) × (length objects ≡ 16) × (length values ≡ 16)
 
 abbrev μ-loop : tie.MeasureT-loop
-μ-loop disk₀ dated₀ pending₀ past₀ snapshots₀ copies₀ copied₀ journal heads₀ index₀ objects₀ values₀ at₀ disk dated pending past snapshots copies copied heads index objects values at = length journal - at
+μ-loop disk₀ dated₀ pending₀ past₀ snapshots₀ copies₀ copied₀ journal index₀ objects₀ values₀ heads₀ indexed₀ at₀ disk dated pending past snapshots copies copied index objects values heads indexed at = length journal - at
 
 wipe-requires : tie.Need-wipe-requires Inv-loop μ-loop
 wipe-requires c κs = let l = c .before .before .before .pre in (l .value-words, l .stamp-words)
@@ -35,7 +36,7 @@ loop-holds c =
     let j = a .journal .now in
     let e = c .wipe .ensures .0 (a .pending .now) (a .past .now) (a .snapshots .now) (a .copies .now) (a .copied .now) in (
       record { fuel = length j; enough = omega arith; held = fresh-held (c .before .before .before .before .pre) e (c .wipe .ensures .1); rest = ap (model.walk (length j) j 1) e },
-      fresh-indexed (c .wipe .result .pending) (pendings (a .pending .now)) (ap (λ (st : Store). st .pending) e) refl (blank-at 512),
+      indexed-follows (fresh-indexed (c .wipe .result .pending) (pendings (a .pending .now)) (ap (λ (st : Store). st .pending) e) refl (blank-at 512)),
       refl,
       refl,
     )
@@ -113,18 +114,21 @@ returns-4 c =
 abbrev replayed : tie.After-heads Inv-loop μ-loop → tie.After-replay Inv-loop μ-loop
 replayed c = c .before .before .before .before .before
 
+indexed-after-requires : tie.Need-indexed-after-requires Inv-loop μ-loop
+indexed-after-requires c κs = search needs
+
 loop-less : tie.Need-loop-less Inv-loop μ-loop
 loop-less c =
-    let r = read (replayed c .before) in
+    let r = read (replayed (c .before) .before) in
     let m = moves-on (start (turn r) .args .journal .now) (turn r .loop .at) fresh (there r) in
     omega (arith, m .0, m .1)
 
 loop-again : tie.Need-loop-again Inv-loop μ-loop
 loop-again c =
-    let p = replayed c in
+    let p = replayed (c .before) in
     let r = read (p .before) in
     let e = p .replay .ensures in
-    (walked-on (turn r .loop .inv .0) (there r) (e .0) (not-false _ (c .before .if1 .left)), e .1 .0, e .1 .1 .0, e .1 .1 .1)
+    (walked-on (turn r .loop .inv .0) (there r) (e .0) (not-false _ (c .before .before .if1 .left)), follows-as (e .1 .0) (sym (c .indexed-after .ensures)), e .1 .1 .0, e .1 .1 .1)
 
 pub walk-spec : {M : Type 1} → statement M
 walk-spec =
@@ -150,5 +154,6 @@ walk-spec =
     replay-requires
     start-requires-2
     returns-4
+    indexed-after-requires
     loop-less
     loop-again)

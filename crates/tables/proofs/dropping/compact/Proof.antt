@@ -83,7 +83,7 @@ module _ {M : Type 1} (𝓤 : URA M) (H : Heap 𝓤) (A : Atoms 𝓤) (mem : Mem
   next-of t k r = exE 𝓤 _ (λ ws. snd∗ 𝓤 (sem 𝓤 H A (lasts next.ended tt (t, (k, tt)) ws)) (fact 𝓤 (r ≡ after t k)))
 
 module _ {M : Type 1} (𝓤 : URA M) (H : Heap 𝓤) (A : Atoms 𝓤) (W : Given 𝓤 H A) (mem : Memory → SProp 𝓤) (run : Routine → Fun 𝓤) (κ : Lft) (q : Share) (b o : ℕ) (γ : GName) (xs : List Past) (n : ℕ) (bs : List Bool)
-    (gn : Room T.the-row (length xs)) (n-is : n < 2 ^ 64) (bs-is : Is S bs (flags bs)) (within : (n ≤ length xs) × (n ≤ 256)) where
+    (gn : Room T.the-row (length xs)) (n-is : n < 2 ^ 64) (bs-is : Is S bs (flags bs)) (within : (n ≤ length xs) × (n ≤ 16)) where
   abbrev x : List Past → Arg
   x l = (record { ptr = (b, o); name = γ; now = l }, (n, (bs, tt)))
 
@@ -116,7 +116,7 @@ module _ {M : Type 1} (𝓤 : URA M) (H : Heap 𝓤) (A : Atoms 𝓤) (W : Given
   abbrev to-next : Bool → ℕ → Next 𝓤 H A mem run .Ghost
   to-next t k = ((tt, tt, tt, (t, (k, tt)), (vbool t ∷ [], (vint w64 k ∷ [], tt))), tt)
 
-  goes-next : (t : Bool) (k : ℕ) → k < 256 → ent 𝓤 (sem 𝓤 H A ftrue) (Next 𝓤 H A mem run .pre (to-next t k))
+  goes-next : (t : Bool) (k : ℕ) → k < 16 → ent 𝓤 (sem 𝓤 H A ftrue) (Next 𝓤 H A mem run .pre (to-next t k))
   goes-next t k l = qed W (‵ ftrue ∷ []) ∵ says ! l $ frame ! $ nothing ! $ owned ! usize (Is usize) (uint-makes 𝓤 H A W w64) k _ (refl, omega arith) $ fjoin ! $ owned ! bool (Is bool) (bool-makes 𝓤 H A W) t _ refl $ fjoin ! $ done !
 
   module _ (𝓣 : Tables 𝓤 H) (known : Triple 𝓤 (𝓣 .C #tables·dropping·next) (Next 𝓤 H A mem run)) (l₀ l₁ l₂ l₃ l₄ l₅ l₆ l₇ l₈ l₉ l₁₀ l₁₁ l₁₂ l₁₃ l₁₄ : ℕ) where
@@ -214,7 +214,7 @@ module _ {M : Type 1} (𝓤 : URA M) (H : Heap 𝓤) (A : Atoms 𝓤) (W : Given
         bs-in : i < length bs
         bs-in = subst (λ (m : ℕ). i < m) (sym (bs-is .1 .0 .1)) (omega (arith, within .1))
 
-        k-small : k < 256
+        k-small : k < 16
         k-small = omega (arith, within .1, c .0)
 
         i-next : i + 1 < 2 ^ 64
@@ -263,7 +263,7 @@ module _ {M : Type 1} (𝓤 : URA M) (H : Heap 𝓤) (A : Atoms 𝓤) (W : Given
 module _ {M : Type 1} (𝓤 : URA M) (H : Heap 𝓤) (A : Atoms 𝓤) (W : Given 𝓤 H A) (mem : Memory → SProp 𝓤) (run : Routine → Fun 𝓤) where
   walks : (𝓣 : Tables 𝓤 H) → Triple 𝓤 (𝓣 .C #tables·dropping·next) (Next 𝓤 H A mem run) → Walks 𝓤 H A self.ended stayed (WpFn 𝓤 H (𝓣 .C) (𝓣 .Λ) code.function) (self.clauses 𝓤 H A mem run)
   walks 𝓣 known = walked 𝓤 H A self.ended stayed (self.clauses 𝓤 H A mem run) (WpFn 𝓤 H (𝓣 .C) (𝓣 .Λ) code.function) (λ κs. (slice-vals, (uint-vals w64, (flags, tt)))) (λ κs. (mut-slice-tells (named 0) (κs .0) T.the-row, (uint-tells w64, (flag-tells, tt))))
-      (λ κs qs bounds a g are. needs 𝓤 ((a .1 .0 ≤ length (a .0 .now)) × (a .1 .0 ≤ 256)) _ (λ l.
+      (λ κs qs bounds a g are. needs 𝓤 ((a .1 .0 ≤ length (a .0 .now)) × (a .1 .0 ≤ 16)) _ (λ l.
       walk 𝓤 H A W mem run (κs .0) (qs .0) (a .0 .ptr .0) (a .0 .ptr .1) (a .0 .name) (a .0 .now) (a .1 .0) (a .1 .1 .0) (are .0 .0 .1) (are .1 .0 .1) (are .1 .1 .0) l 𝓣 known))
 
 meets : {M : Type 1} (𝓤 : URA M) (H : Heap 𝓤) (A : Atoms 𝓤) → Given 𝓤 H A → (mem : Memory → SProp 𝓤) (run : Routine → Fun 𝓤) (𝓣 : Tables 𝓤 H) → Triple 𝓤 (𝓣 .C #tables·dropping·next) (Next 𝓤 H A mem run)

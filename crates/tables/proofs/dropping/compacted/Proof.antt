@@ -63,7 +63,7 @@ module _ {M : Type 1} (𝓤 : URA M) (H : Heap 𝓤) (A : Atoms 𝓤) (at-mem : 
   abbrev Callee : Contract 𝓤
   Callee = tripleOf 𝓤 H A callee.signature (callee.spec 𝓤 H A at-mem run)
 
-module _ {M : Type 1} (𝓤 : URA M) (H : Heap 𝓤) (A : Atoms 𝓤) (W : Given 𝓤 H A) (at-mem : Memory → SProp 𝓤) (run : Routine → Fun 𝓤) (xs : List Past) (n : ℕ) (bs : List Bool) (g : Is R xs (vals xs)) (n-is : n < 2 ^ 64) (bs-is : Is S bs (flags bs)) (l : n ≤ 256) where
+module _ {M : Type 1} (𝓤 : URA M) (H : Heap 𝓤) (A : Atoms 𝓤) (W : Given 𝓤 H A) (at-mem : Memory → SProp 𝓤) (run : Routine → Fun 𝓤) (xs : List Past) (n : ℕ) (bs : List Bool) (g : Is R xs (vals xs)) (n-is : n < 2 ^ 64) (bs-is : Is S bs (flags bs)) (l : n ≤ 16) where
   abbrev Arg : Type 0
   Arg = List Past × (ℕ × (List Bool × Unit {0}))
 
@@ -82,7 +82,7 @@ module _ {M : Type 1} (𝓤 : URA M) (H : Heap 𝓤) (A : Atoms 𝓤) (W : Given
       owned ! F.the-row (Is F.the-row) (LL.makes F.the-type F′.the-plain 𝓤 H A) (record { rows = zs; n = k }) _ (front-is zs k g′ k-is) $
       nothing ! $ owned ! S (Is S) (flag-makes 𝓤 H A W) bs _ bs-is $ fjoin ! $ owned ! usize (Is usize) (uint-makes 𝓤 H A W w64) n _ (refl, n-is) $ fjoin ! $ owned ! R (Is R) (makes 𝓤 H A W) xs _ g $ fjoin ! $ nothing ! $ done !
 
-  len : length xs ≡ 256
+  len : length xs ≡ 16
   len = g .1 .0 .1
 
   room : Room T.the-row (length xs)
@@ -142,7 +142,7 @@ module _ {M : Type 1} (𝓤 : URA M) (H : Heap 𝓤) (A : Atoms 𝓤) (W : Given
 module _ {M : Type 1} (𝓤 : URA M) (H : Heap 𝓤) (A : Atoms 𝓤) (W : Given 𝓤 H A) (at-mem : Memory → SProp 𝓤) (run : Routine → Fun 𝓤) where
   walks : (C : Calls 𝓤 H) (Λ : Loops 𝓤 H) → FmC 𝓤 H (W .laws) C → Triple 𝓤 (C #tables·dropping·compact) (Callee 𝓤 H A at-mem run) → Walks 𝓤 H A self.ended stayed (WpFn 𝓤 H C Λ code.function) (self.clauses 𝓤 H A at-mem run)
   walks C Λ fm known = walked 𝓤 H A self.ended stayed (self.clauses 𝓤 H A at-mem run) (WpFn 𝓤 H C Λ code.function) (λ κs. (vals, (uint-vals w64, (flags, tt)))) (λ κs. (tells, (uint-tells w64, (flag-tells, tt))))
-      (λ κs qs bounds a _ are. needs 𝓤 (a .1 .0 ≤ 256) _ (λ l. walk 𝓤 H A W at-mem run (a .0) (a .1 .0) (a .1 .1 .0) (are .0) (are .1 .0 .1) (are .1 .1 .0) l C Λ fm known))
+      (λ κs qs bounds a _ are. needs 𝓤 (a .1 .0 ≤ 16) _ (λ l. walk 𝓤 H A W at-mem run (a .0) (a .1 .0) (a .1 .1 .0) (are .0) (are .1 .0 .1) (are .1 .1 .0) l C Λ fm known))
 
   goes : AllGo 𝓤 H A W 0 (self.signature .params) (self.ended .kept) stayed
   goes = (goes-none 𝓤 H A W 0 (λ _. R) yes (λ κs x f. refl), (goes-none 𝓤 H A W 0 (λ _. usize) yes (λ κs x f. refl), (goes-none 𝓤 H A W 0 (λ _. S) yes (λ κs x f. refl), tt)))

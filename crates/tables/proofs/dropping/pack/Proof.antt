@@ -1,27 +1,29 @@
--- The rows written so far are those that were handed over, and those before the first of them are as they were.
+-- The table is as it was, with the rows written so far in it.
 use Prim.Native.Nat.{ℕ, _≤_, _-_, _+_}
-use mathlib.Core.Path.{_≡_, refl, sym, ap, _∙_, subst}
+use mathlib.Core.Path.{_≡_, sym, ap, _∙_, subst}
 use mathlib.Core.List.{List}
+use native.Mathlib.Numerals.{add-one}
 use native.Mathlib.Omega.{arith}
-use lib.ListN.{length, take, drop, length-set}
-use lib.Seq.{take-set-le, slice-empty}
+use lib.ListN.{length, getD, set}
+use lib.Seq.{paste, paste-zero, paste-suc, length-paste, take-paste, drop-paste}
 use borrow.Author.Needs.{needs}
 use Rattle.model.specs.declared.Past.{Past}
 use Rattle.tables.specs.Rows.{pasts}
-use Rattle.tables.proofs.Compacts.{noPast, copied}
+use Rattle.tables.proofs.Compacts.{noPast}
 use Rattle.tables.proofs.dropping.pack.Statement.{statement}
 use Rattle.tables.proofs.dropping.pack.Tie as tie
 
 abbrev Inv-loop : tie.InvT-loop
-Inv-loop t₀ «from» n rows i₀ t i =
-    («from» ≤ i) × (i ≤ n) × (length (pasts t) ≡ 256) × (length rows ≡ 256) × (take «from» (pasts t) ≡ take «from» (pasts t₀)) × (drop «from» (take i (pasts t)) ≡ drop «from» (take i rows))
+Inv-loop t₀ at n rows i₀ t i = (i ≤ n) × (length rows ≡ 16) × (pasts t ≡ paste (pasts t₀) at rows i)
 
 abbrev μ-loop : tie.MeasureT-loop
-μ-loop t₀ «from» n rows i₀ t i = n - i
+μ-loop t₀ at n rows i₀ t i = n - i
 
 loop-holds : tie.Need-loop-holds Inv-loop μ-loop
-loop-holds c = let a = c .args in
-    (omega arith, omega arith, search needs, search needs, refl, slice-empty (a .from) (pasts (a .t .now)) ∙ sym (slice-empty (a .from) (a .t2)))
+loop-holds c = let a = c .args in (omega arith, search needs, paste-zero (pasts (a .t .now)) (a .at) (a .t2))
+
+add-put-past : tie.Need-add-put-past Inv-loop μ-loop
+add-put-past c = search needs
 
 mul-put-past : tie.Need-mul-put-past Inv-loop μ-loop
 mul-put-past c = search needs
@@ -41,21 +43,24 @@ loop-less c = search needs
 loop-again : tie.Need-loop-again Inv-loop μ-loop
 loop-again c = let v = c .before .before .before .before .loop in
     let a = c .before .before .before .before .before .args in
-    let q = c .put-past .ensures in (
+    let ps = pasts (a .t .now) in (
       omega arith,
-      omega arith,
-      ap length q ∙ simp length-set (v .inv .2),
-      v .inv .3,
-      ap (take (a .from)) q ∙ take-set-le (a .from) (pasts (v .t)) (v .i) _ (v .inv .0) ∙ v .inv .4,
-      ap (λ (l : List Past). drop (a .from) (take (v .i + 1) l)) q
-          ∙ copied (pasts (v .t)) (a .t2) (a .from) (v .i) noPast _ (v .inv .0) (omega arith) (omega arith) (v .inv .5) refl,
+      v .inv .1,
+      c .put-past .ensures ∙ ap (λ (l : List Past). set l (a .at + v .i) (getD (a .t2) (v .i) noPast)) (v .inv .2) ∙ paste-suc ps (a .at) (a .t2) (v .i) noPast (omega arith) (omega arith)
+          ∙ ap (paste ps (a .at) (a .t2)) (sym (add-one (v .i))),
     )
 
 returns : tie.Need-returns Inv-loop μ-loop
 returns c = let v = c .before .loop in
     let a = c .before .before .args in
+    let ps = pasts (a .t .now) in
     let e : v .i ≡ a .n = omega arith in
-    (v .inv .4, subst (λ (j : ℕ). drop (a .from) (take j (pasts (v .t))) ≡ drop (a .from) (take j (a .t2))) e (v .inv .5), v .inv .2)
+    let q = subst (λ (j : ℕ). pasts (v .t) ≡ paste ps (a .at) (a .t2) j) e (v .inv .2) in
+    rw q (
+      take-paste ps (a .at) (a .t2) (a .n) (omega arith) (omega arith),
+      drop-paste ps (a .at) (a .t2) (a .n) (omega arith) (omega arith),
+      length-paste ps (a .at) (a .t2) (a .n) (omega arith) (omega arith) ∙ search needs,
+    )
 
 pub pack-spec : {M : Type 1} → statement M
 pack-spec =
@@ -64,6 +69,7 @@ pack-spec =
     Inv-loop
     μ-loop
     loop-holds
+    add-put-past
     mul-put-past
     array-copy-out-put-past
     put-past-requires
