@@ -53,7 +53,7 @@ pub fn commit_all_new(
             place: used,
         };
     }
-    let verdict = commits::judge_all_new(h, t);
+    let verdict = commits::judge_with_room(h, t);
     let answer = crate::settling::settled(verdict, journal, used, 10 + 10 * objects.len());
     if answer.code() != 0 {
         return Changed {

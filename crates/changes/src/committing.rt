@@ -2,6 +2,7 @@
 use crate::settling::Changed;
 use journal::place::Place;
 use model::Answer;
+use model::Verdict;
 use tables::Copied;
 use tables::CopyTable;
 use tables::Disk;
@@ -10,12 +11,16 @@ use tables::PastTable;
 use tables::PendingTable;
 use tables::Snapshots;
 ghost use mathlib.Core.Path.{_≡_};
+ghost use mathlib.Core.List.{List};
+ghost use Prim.Native.Nat.{ℕ};
 ghost use lib.ListN.{length};
 ghost use lib.Dec.{eqb};
 ghost use Rattle.model.specs.Lists.{both};
-ghost use Rattle.model.specs.Judgement.{objectsShaped};
+ghost use Rattle.model.specs.Changes.{paired};
+ghost use Rattle.model.specs.Judgement.{objectsShaped, judgeCommit};
 ghost use Rattle.model.specs.Calls.{journalShaped, commitCall};
 ghost use Rattle.tables.specs.Contents.{contents};
+ghost use Rattle.commits.specs.Promises.{Ready};
 ghost use Rattle.changes.specs.Left.{Left};
 
 // The lists and the journal have a shape that a commit can have.
@@ -29,6 +34,26 @@ pub fn commit_shaped(journal: &[u8], used: Place, objects: &[u64], values: &[u64
         return false;
     }
     rules::objects_shaped(objects)
+}
+
+// The verdict on a commit, weighed only where it might not fit. It stands here and in crate restart, and not once in commits: so the
+// compiler puts the short test in line, and the weighing behind a call.
+fn judged(
+    pending: &PendingTable,
+    snapshots: &Snapshots,
+    copies: &CopyTable,
+    h: Heads,
+    t: u64,
+    objects: &[u64],
+    index: &[u8],
+) -> Verdict
+    requires { ⌜ Ready (now pending) (now snapshots) (now copies) h (now objects) (now index) ⌝ }
+    ensures { λ r. ⌜ ((disk dated : List ℕ) (past : List (List ℕ)) (copied vs : List ℕ) → length vs ≡ length (now (objects .entry)) → r ≡ judgeCommit (contents disk dated (now (pending .entry)) past (now (snapshots .entry)) (now (copies .entry)) copied h) t (paired (now (objects .entry)) vs)) ⌝ }
+{
+    if commits::roomy(h, objects.len()) {
+        return commits::judge_with_room(h, t);
+    }
+    commits::judge_commit(pending, snapshots, copies, h, t, objects, index)
 }
 
 pub fn commit(
@@ -88,7 +113,7 @@ pub fn commit(
             place: used,
         };
     }
-    let verdict = commits::judge_commit(pending, snapshots, copies, h, t, objects, &index);
+    let verdict = judged(pending, snapshots, copies, h, t, objects, &index);
     let answer = crate::settling::settled(verdict, journal, used, 10 + 10 * objects.len());
     if answer.code() != 0 {
         return Changed {

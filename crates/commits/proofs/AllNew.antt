@@ -1,4 +1,4 @@
--- A commit on a store that has no entries: every write adds one and displaces nothing. The store that it leaves; and the loop that writes its entries.
+-- A commit on a store that has no entries: every write adds one and displaces nothing. The store that it leaves, which fits; and the loop that writes its entries.
 use Prim.Native.Nat.{ℕ, _+_, _≤_, _<_}
 use mathlib.Core.Path.{_≡_, refl, ap, sym, _∙_}
 use mathlib.Core.Bool.{true, false}
@@ -13,13 +13,13 @@ use Rattle.model.specs.Lists.{twiceB}
 use Rattle.model.specs.Store.{Store, Slot, none, some, lookup}
 use Rattle.model.specs.Changes.{paired, put, displaced, writeOne, writes, lastAt, commitStore}
 use Rattle.tables.specs.declared.Heads.{Heads}
-use Rattle.tables.specs.Rows.{pendingOf, pendings, upTo}
-use Rattle.tables.specs.Contents.{contents}
+use Rattle.tables.specs.Rows.{pendingOf, pastOf, pendings, pasts, upTo}
+use Rattle.tables.specs.Contents.{contents, Counted}
 use Rattle.tables.proofs.Bridges.{opened}
 use Rattle.tables.proofs.Cases.{by-test, clash}
-use Rattle.tables.proofs.Counts.{up-to-take}
+use Rattle.tables.proofs.Counts.{up-to-length, up-to-take}
 use Rattle.commits.specs.Rows.{newB, newIn}
-use Rattle.commits.specs.Promises.{grown}
+use Rattle.commits.specs.Promises.{Room, grown}
 use Rattle.commits.proofs.Distinct.{once-rest, map-off, lookup-other}
 
 -- a new entry for each write
@@ -28,7 +28,7 @@ openedAll t [] vs = []
 openedAll t (o ∷ os) [] = []
 openedAll t (o ∷ os) (v ∷ vs) = opened o t v ∷ openedAll t os vs
 
-pub opened-length : (t : ℕ) (os vs : List ℕ) → length (openedAll t os vs) ≤ length os
+opened-length : (t : ℕ) (os vs : List ℕ) → length (openedAll t os vs) ≤ length os
 opened-length t [] vs = omega arith
 opened-length t (o ∷ os) [] = omega arith
 opened-length t (o ∷ os) (v ∷ vs) = omega (arith, opened-length t os vs)
@@ -80,13 +80,25 @@ module _ (t : ℕ) where
       let ih = writes-new os vs (holding st (st .pending ++ (opened o t v ∷ []))) (once-rest o os d .1) (new-rest o v os (st .pending) n d e) in
       ap (λ s. writes s t (paired os vs)) (write-new t o v st n) ∙ ih ∙ ap (holding st) (append-assoc (st .pending) (opened o t v ∷ []) (openedAll t os vs))
 
-  pub commit-new : (os vs : List ℕ) (st : Store) → st .pending ≡ [] → twiceB os ≡ false → commitStore st t (paired os vs) ≡ holding (lastAt st t) (openedAll t os vs)
+  commit-new : (os vs : List ℕ) (st : Store) → st .pending ≡ [] → twiceB os ≡ false → commitStore st t (paired os vs) ≡ holding (lastAt st t) (openedAll t os vs)
   unfolding lastAt
   commit-new os vs st e d = writes-new os vs (lastAt st t) d (rw e) ∙ rw e
 
 -- the entries that a count of 0 shows
-pub none-pending : (pending : List (List ℕ)) (h : Heads) → h .pending ≡ 0 → upTo (pendingOf []) (h .pending) (pendings pending) ≡ []
+none-pending : (pending : List (List ℕ)) (h : Heads) → h .pending ≡ 0 → upTo (pendingOf []) (h .pending) (pendings pending) ≡ []
 none-pending pending h e = rw e
+
+-- there is room for them: at most 16 entries come, and no past value
+pub new-room : (h : Heads) (t : ℕ) (os vs : List ℕ) → h .pending ≡ 0 → Counted h → length os ≤ 16 → twiceB os ≡ false
+    → (disk dated : List ℕ) (pending past : List (List ℕ)) (snapshots : List ℕ) (copies : List (List ℕ)) (copied : List ℕ)
+    → Room (commitStore (contents disk dated pending past snapshots copies copied h) t (paired os vs))
+unfolding lastAt
+new-room h t os vs e c s d disk dated pending past snapshots copies copied =
+    let a = commit-new t os vs (contents disk dated pending past snapshots copies copied h) (none-pending pending h e) d in
+    record {
+      pending-room = rw a (omega (arith, opened-length t os vs));
+      past-room = rw (a, up-to-length (pastOf []) (h .past) (pasts past)) (c .past-count);
+    }
 
 -- ---- the loop: the entries of the first k writes, with those to come, are all
 module _ (t : ℕ) (os vs : List ℕ) where

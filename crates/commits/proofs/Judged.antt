@@ -6,25 +6,26 @@ use mathlib.Core.List.{List, [], map}
 use native.Mathlib.Omega.{arith}
 use lib.ListN.{length, take}
 use lib.Dec.{ltb, leb}
-use borrow.Author.Tests.{lt-ltb, le-ltb, le-leb, lt-leb, ltb-false, leb-false}
+use borrow.Author.Tests.{lt-ltb, le-ltb, le-leb, lt-leb, leb-true, ltb-false, leb-false}
 use Rattle.model.specs.declared.Pending.{Pending}
 use Rattle.model.specs.declared.Answer.{Answer}
 use Rattle.model.specs.declared.Answer.the-variants.{Late, PendingFull, PastFull}
 use Rattle.model.specs.declared.Verdict.{Verdict}
 use Rattle.model.specs.declared.Verdict.the-variants.{Accepted, Idle, Refused}
 use Rattle.model.specs.Answers.{codeOf}
-use Rattle.model.specs.Lists.{pick, either, twiceB}
+use Rattle.model.specs.Lists.{pick, both, either}
 use Rattle.model.specs.Store.{Store}
 use Rattle.model.specs.Changes.{Write, paired, lastAt, commitStore}
 use Rattle.model.specs.Judgement.{judgeCommit}
 use Rattle.tables.specs.declared.Heads.{Heads}
 use Rattle.tables.specs.Rows.{pendingOf, pastOf, pendings, pasts, upTo}
-use Rattle.tables.specs.Contents.{contents, Counted}
+use Rattle.tables.specs.Contents.{contents}
 use Rattle.tables.proofs.Cases.{by-test}
 use Rattle.tables.proofs.Counts.{up-to-length}
+use Rattle.tables.proofs.Searches.{both-left, both-right}
 use Rattle.commits.specs.Rows.{trues, newIn, liveBy, displacesIn}
 use Rattle.commits.specs.Promises.{Ready, Room}
-use Rattle.commits.proofs.AllNew.{opened-length, commit-new, none-pending}
+use Rattle.commits.proofs.Counting.{trues-few}
 use Rattle.commits.proofs.Growth.{pending-growth, past-growth}
 use Rattle.commits.proofs.Finding.{pending-taken}
 
@@ -85,6 +86,15 @@ module _ {pending : List (List ℕ)} {snapshots : List ℕ} {copies : List (List
         past-growth t os vs (lastAt before t) l (r .once) in
         rw (← as-taken) (omega arith)
 
+    -- each write adds one of each at most
+    pub roomy-room : both (leb (h .pending + length os) 128) (leb (h .past + length os) 256) ≡ true → Room (commitStore before t (paired os vs))
+    roomy-room e =
+        let p = leb-true (h .pending + length os) 128 (both-left (leb (h .pending + length os) 128) (leb (h .past + length os) 256) e) in
+        let q = leb-true (h .past + length os) 256 (both-right (leb (h .pending + length os) 128) (leb (h .past + length os) 256) e) in
+        let n = trues-few (newIn (take (h .pending) (pendings pending))) os in
+        let o = trues-few (displacesIn (liveBy snapshots copies copied h) t (take (h .pending) (pendings pending))) os in
+        record { pending-room = omega (arith, left-pending); past-room = omega (arith, left-past) }
+
   -- a verdict on the commit, whatever the tables that the code isn't lent
   abbrev Says : Verdict → Type 0
   Says v = (disk dated : List ℕ) (past : List (List ℕ)) (copied vs : List ℕ) → length vs ≡ length os
@@ -116,26 +126,19 @@ module _ {pending : List (List ℕ)} {snapshots : List ℕ} {copies : List (List
             let y = left-past disk dated past copied vs l in
             say-accepted (before disk dated past copied vs l) t (paired os vs) (omega arith) (omega arith) (omega arith) (omega (arith, d copied))
 
--- ---- the same where no entry is pending, whatever the tables
-module _ (h : Heads) (t : ℕ) where
-  abbrev SaysNew : Verdict → Type 0
-  SaysNew v = (disk dated : List ℕ) (pending past : List (List ℕ)) (snapshots : List ℕ) (copies : List (List ℕ)) (copied os vs : List ℕ) → length vs ≡ length os → length os ≤ 16 → twiceB os ≡ false
-      → v ≡ judgeCommit (contents disk dated pending past snapshots copies copied h) t (paired os vs)
+-- ---- the same where there is room, whatever the tables
+module _ (h : Heads) (t : ℕ) {latest : ℕ} (late : latest ≡ max (h .last) (h .horizon)) where
+  abbrev SaysRoomy : Verdict → Type 0
+  SaysRoomy v = (disk dated : List ℕ) (pending past : List (List ℕ)) (snapshots : List ℕ) (copies : List (List ℕ)) (copied : List ℕ) (ws : List Write)
+      → Room (commitStore (contents disk dated pending past snapshots copies copied h) t ws) → v ≡ judgeCommit (contents disk dated pending past snapshots copies copied h) t ws
 
-  module _ {latest : ℕ} (late : latest ≡ max (h .last) (h .horizon)) where
-    pub new-late : t ≤ latest → SaysNew (Refused (Late latest))
-    new-late b disk dated pending past snapshots copies copied os vs l s d =
-        ap (λ n. Refused (Late n)) late ∙ say-late (contents disk dated pending past snapshots copies copied h) t (paired os vs) (omega arith)
+  pub roomy-late : t ≤ latest → SaysRoomy (Refused (Late latest))
+  roomy-late b disk dated pending past snapshots copies copied ws m =
+      ap (λ n. Refused (Late n)) late ∙ say-late (contents disk dated pending past snapshots copies copied h) t ws (omega arith)
 
-    -- there is room for at most 16 entries, and no past value is added
-    pub new-accepted : h .pending ≡ 0 → Counted h → latest < t → SaysNew Accepted
-    unfolding lastAt
-    new-accepted e c b disk dated pending past snapshots copies copied os vs l s d =
-        let st = contents disk dated pending past snapshots copies copied h in
-        let a = commit-new t os vs st (none-pending pending h e) d in
-        let p : length (commitStore st t (paired os vs) .pending) ≤ 128 = rw a (omega (arith, opened-length t os vs)) in
-        let q : length (commitStore st t (paired os vs) .past) ≤ 256 = rw (a, up-to-length (pastOf []) (h .past) (pasts past)) (c .past-count) in
-        say-accepted st t (paired os vs) (omega arith) (omega arith) p q
+  pub roomy-accepted : latest < t → SaysRoomy Accepted
+  roomy-accepted b disk dated pending past snapshots copies copied ws m =
+      say-accepted (contents disk dated pending past snapshots copies copied h) t ws (omega arith) (omega arith) (m .pending-room) (m .past-room)
 
 -- ---- what a verdict tells
 abbrev Told : Store → ℕ → List Write → Verdict → Type 0

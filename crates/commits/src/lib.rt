@@ -12,11 +12,12 @@ use tables::Snapshots;
 ghost use mathlib.Core.Path.{_≡_};
 ghost use mathlib.Core.Bool.{true, false};
 ghost use mathlib.Core.List.{List, map};
-ghost use Prim.Native.Nat.{ℕ, _≤_, _<_, max};
+ghost use Prim.Native.Nat.{ℕ, _+_, _≤_, _<_, max};
 ghost use lib.ListN.{length, take};
+ghost use lib.Dec.{leb};
 ghost use Rattle.model.specs.declared.Pending.{Pending};
-ghost use Rattle.model.specs.Lists.{risingFrom, twiceB};
-ghost use Rattle.model.specs.Changes.{paired, closed, writeOne, commitStore};
+ghost use Rattle.model.specs.Lists.{both, risingFrom, twiceB};
+ghost use Rattle.model.specs.Changes.{Write, paired, closed, writeOne, commitStore};
 ghost use Rattle.model.specs.Judgement.{judgeCommit};
 ghost use Rattle.tables.specs.Rows.{pendings, pasts, copyHeads};
 ghost use Rattle.tables.specs.Lookups.{findPending, rowOf, Indexed};
@@ -268,11 +269,21 @@ pub fn apply_commit(
     }
 }
 
-// What the store says of a commit where no entry is pending: Late, or accepted. Every write is a new entry, there is room for
-// them all, and nothing is displaced.
-pub fn judge_all_new(h: Heads, t: u64) -> Verdict
-    requires { ⌜ (h .pending ≡ 0) × Counted h ⌝ }
-    ensures { λ r. ⌜ ((disk dated : List ℕ) (pending past : List (List ℕ)) (snapshots : List ℕ) (copies : List (List ℕ)) (copied os vs : List ℕ) → length vs ≡ length os → length os ≤ 16 → twiceB os ≡ false → r ≡ judgeCommit (contents disk dated pending past snapshots copies copied h) t (paired os vs)) ⌝ }
+// A commit of so many writes fits, whatever they add.
+pub fn roomy(h: Heads, count: usize) -> bool
+    requires { ⌜ Counted h × (count ≤ 16) ⌝ }
+    ensures { λ r. ⌜ r ≡ both (leb (h .pending + count) 128) (leb (h .past + count) 256) ⌝ }
+{
+    if h.pending + count <= 128 {
+        h.past + count <= 256
+    } else {
+        false
+    }
+}
+
+// What the store says of a commit that fits: Late, or accepted.
+pub fn judge_with_room(h: Heads, t: u64) -> Verdict
+    ensures { λ r. ⌜ ((disk dated : List ℕ) (pending past : List (List ℕ)) (snapshots : List ℕ) (copies : List (List ℕ)) (copied : List ℕ) (ws : List Write) → Room (commitStore (contents disk dated pending past snapshots copies copied h) t ws) → r ≡ judgeCommit (contents disk dated pending past snapshots copies copied h) t ws) ⌝ }
 {
     let newest = later(h.last, h.horizon);
     if t <= newest {
@@ -281,7 +292,7 @@ pub fn judge_all_new(h: Heads, t: u64) -> Verdict
     Verdict::Accepted
 }
 
-// Its writes, each a new entry.
+// The writes of a commit where no entry is pending: each a new one.
 pub fn add_all(
     pending: &mut PendingTable,
     h: Heads,

@@ -14,6 +14,7 @@ use Rattle.model.specs.Changes.{Change, commit, paired}
 use Rattle.model.specs.Judgement.{judge}
 use Rattle.model.specs.Calls.{roomed}
 use Rattle.tables.specs.Contents.{contents, Counted}
+use Rattle.commits.proofs.AllNew.{new-room}
 use Rattle.changes.proofs.Undamaged.{none-damaged}
 use Rattle.changes.proofs.Rooms.{Taken}
 use Rattle.changes.proofs.Outcomes.{left-damaged, left-shape, left-twice, Passed, left-refused, taken, left-done}
@@ -107,8 +108,8 @@ once c = sym (c .before .named-twice .ensures) ∙ c .if3 .left
 passed : (c : tie.Else3) → let a = start3 c .args in Passed (store (start3 c)) (a .journal .now) (a .used .at) (pairs (start3 c)) (made (start3 c))
 passed c = listed-passed (lists (back3 c)) (start3 c .args .t) (whole (back2 (back3 c))) (once c)
 
-judge-all-new-requires : tie.Need-judge-all-new-requires
-judge-all-new-requires c κs = (start3 c .pre .1, counted (back2 (back3 c)))
+judge-with-room-requires : tie.Need-judge-with-room-requires
+judge-with-room-requires c κs = search needs
 
 mul-settled : tie.Need-mul-settled
 mul-settled c = omega (arith, lists (back3 (c .before .before)) .short)
@@ -120,13 +121,15 @@ settled-requires : tie.Need-settled-requires
 settled-requires c κs = let e = back3 (c .before .before) in (omega (arith, lists e .short), lists e .placed)
 
 -- the verdict and the answer are the model's
-judged : (c : tie.After-settled) → let s = start3 (asked c) in c .before .before .judge-all-new .result ≡ judge (store s) (made s)
+judged : (c : tie.After-settled) → let s = start3 (asked c) in c .before .before .judge-with-room .result ≡ judge (store s) (made s)
 judged c =
     let a = start3 (asked c) .args in
     let f = lists (back3 (asked c)) in
-    c .before .before .judge-all-new .ensures (a .disk .now) (a .dated .now) (a .pending .now) (a .past .now) (a .snapshots .now) (a .copies .now) (a .copied .now) (a .objects .now) (a .values .now) (sym (f .even)) (f .short) (once (asked c))
+    let m = new-room (a .h) (a .t) (a .objects .now) (a .values .now) (start3 (asked c) .pre .1) (counted (back2 (back3 (asked c)))) (f .short) (once (asked c)) in
+    c .before .before .judge-with-room .ensures (a .disk .now) (a .dated .now) (a .pending .now) (a .past .now) (a .snapshots .now) (a .copies .now) (a .copied .now) (paired (a .objects .now) (a .values .now))
+    (m (a .disk .now) (a .dated .now) (a .pending .now) (a .past .now) (a .snapshots .now) (a .copies .now) (a .copied .now))
 
-settles : (c : tie.After-settled) → let s = start3 (asked c) in c .settled .result ≡ roomed (c .before .before .judge-all-new .result) (s .args .journal .now) (s .args .used .at) (made s)
+settles : (c : tie.After-settled) → let s = start3 (asked c) in c .settled .result ≡ roomed (c .before .before .judge-with-room .result) (s .args .journal .now) (s .args .used .at) (made s)
 settles c =
     let s = start3 (asked c) in
     c .settled .ensures (made s) (listed-length (lists (back3 (asked c))) (s .args .t))
@@ -144,7 +147,7 @@ returns-4 c = left-refused (passed (asked (c .before .before))) (judged (c .befo
 zero : (c : tie.Else4) → codeOf (c .before .before .settled .result) ≡ 0
 zero c = sym (c .before .code .ensures) ∙ c .if4 .left
 
-accepted : (c : tie.Else4) → let s = start3 (back4 c) in Taken (c .before .before .before .before .judge-all-new .result) (s .args .journal .now) (s .args .used .at) (made s) (c .before .before .settled .result)
+accepted : (c : tie.Else4) → let s = start3 (back4 c) in Taken (c .before .before .before .before .judge-with-room .result) (s .args .journal .now) (s .args .used .at) (made s) (c .before .before .settled .result)
 accepted c = taken (passed (back4 c)) (judged (c .before .before)) (settles (c .before .before)) (zero c)
 
 add-all-requires : tie.Need-add-all-requires
@@ -186,7 +189,7 @@ commit-all-new-spec =
     named-twice-requires
     same-length-2
     returns-3
-    judge-all-new-requires
+    judge-with-room-requires
     mul-settled
     add-settled
     settled-requires

@@ -144,8 +144,8 @@ index c = back3 (back4 c) .before .damaged-or-indexed .last .1 .1 .1 .1 .1 .0
 indexed : (c : tie.Else4) → let a = start4 c .args in Indexed (index c) (take (a .h .pending) (pendings (a .pending .now)))
 indexed c = let e = back3 (back4 c) in e .before .damaged-or-indexed .ensures .1 (e .if2 .left)
 
-slice-aggregate-judge-commit : tie.Need-slice-aggregate-judge-commit
-slice-aggregate-judge-commit c = sym (indexed (c .before .before) .objects-in)
+slice-aggregate-judged : tie.Need-slice-aggregate-judged
+slice-aggregate-judged c = sym (indexed (c .before .before) .objects-in)
 
 -- the judge and the writer have what they ask
 ready : (c : tie.Else4) → let a = start4 c .args in Ready (a .pending .now) (a .snapshots .now) (a .copies .now) (a .h) (a .objects .now) (index c)
@@ -166,8 +166,8 @@ ready c =
       indexed = indexed c;
     }
 
-judge-commit-requires : tie.Need-judge-commit-requires
-judge-commit-requires c κs = ready (c .before .before)
+judged-requires : tie.Need-judged-requires
+judged-requires c κs = ready (c .before .before)
 
 mul-settled : tie.Need-mul-settled
 mul-settled c = omega (arith, lists (back4 (c .before .before .before .before)) .short)
@@ -179,12 +179,12 @@ settled-requires : tie.Need-settled-requires
 settled-requires c κs = let e = back4 (c .before .before .before .before) in (omega (arith, lists e .short), lists e .placed)
 
 -- the verdict and the answer are the model's
-judged : (c : tie.After-settled) → let s = start4 (asked c) in c .before .before .judge-commit .result ≡ judge (store s) (made s)
+judged : (c : tie.After-settled) → let s = start4 (asked c) in c .before .before .judged .result ≡ judge (store s) (made s)
 judged c =
     let a = start4 (asked c) .args in
-    c .before .before .judge-commit .ensures (a .disk .now) (a .dated .now) (a .past .now) (a .copied .now) (a .values .now) (sym (lists (back4 (asked c)) .even))
+    c .before .before .judged .ensures (a .disk .now) (a .dated .now) (a .past .now) (a .copied .now) (a .values .now) (sym (lists (back4 (asked c)) .even))
 
-settles : (c : tie.After-settled) → let s = start4 (asked c) in c .settled .result ≡ roomed (c .before .before .judge-commit .result) (s .args .journal .now) (s .args .used .at) (made s)
+settles : (c : tie.After-settled) → let s = start4 (asked c) in c .settled .result ≡ roomed (c .before .before .judged .result) (s .args .journal .now) (s .args .used .at) (made s)
 settles c =
     let s = start4 (asked c) in
     c .settled .ensures (made s) (listed-length (lists (back4 (asked c))) (s .args .t))
@@ -202,7 +202,7 @@ returns-5 c = left-refused (passed (asked (c .before .before))) (judged (c .befo
 zero : (c : tie.Else5) → codeOf (c .before .before .settled .result) ≡ 0
 zero c = sym (c .before .code .ensures) ∙ c .if5 .left
 
-accepted : (c : tie.Else5) → let s = start4 (back5 c) in Taken (c .before .before .before .before .judge-commit .result) (s .args .journal .now) (s .args .used .at) (made s) (c .before .before .settled .result)
+accepted : (c : tie.Else5) → let s = start4 (back5 c) in Taken (c .before .before .before .before .judged .result) (s .args .journal .now) (s .args .used .at) (made s) (c .before .before .settled .result)
 accepted c = taken (passed (back5 c)) (judged (c .before .before)) (settles (c .before .before)) (zero c)
 
 apply-commit-requires : tie.Need-apply-commit-requires
@@ -216,7 +216,7 @@ apply-commit-requires c κs =
         l,
         λ disk dated copied.
             accepted-room (contents disk dated (a .pending .now) (a .past .now) (a .snapshots .now) (a .copies .now) copied (a .h)) (a .t) (paired (a .objects .now) (a .values .now))
-            (sym (e .before .before .before .before .judge-commit .ensures disk dated (a .past .now) copied (a .values .now) l) ∙ accepted e .accepted),
+            (sym (e .before .before .before .before .judged .ensures disk dated (a .past .now) copied (a .values .now) l) ∙ accepted e .accepted),
       ),
     )
 
@@ -256,8 +256,8 @@ commit-spec =
     named-twice-requires
     same-length-3
     returns-4
-    slice-aggregate-judge-commit
-    judge-commit-requires
+    slice-aggregate-judged
+    judged-requires
     mul-settled
     add-settled
     settled-requires

@@ -9,17 +9,17 @@ use Rattle.restart.proofs.Turning.{commit-ready, commit-room, commit-no
 use Rattle.restart.proofs.commit.carry.Statement.{statement}
 use Rattle.restart.proofs.commit.carry.Tie as tie
 
-abbrev judged : tie.After-accepts → tie.After-judge-commit
+abbrev judged : tie.After-accepts → tie.After-judged
 judged c = c .before
 
-abbrev start : tie.After-judge-commit → tie.Start
+abbrev start : tie.After-judged → tie.Start
 start c = c .before .before .before .before .before .before
 
 ready : (s : tie.Start) → Ready (s .args .pending .now) (s .args .snapshots .now) (s .args .copies .now) (s .args .h) (s .args .objects .now) (s .args .index .now)
 ready s = let l = s .pre .1 .1 in commit-ready (s .pre .0) (s .pre .1 .0) (l .0) (l .2) (l .3)
 
-judge-commit-requires : tie.Need-judge-commit-requires
-judge-commit-requires c κs = ready (c .before .before .before .before .before)
+judged-requires : tie.Need-judged-requires
+judged-requires c κs = ready (c .before .before .before .before .before)
 
 accepts-requires : tie.Need-accepts-requires
 accepts-requires c κs = search needs
@@ -29,12 +29,12 @@ returns c =
     let j = judged (c .before) in
     let s = start j in
     let a = s .args in (
-      commit-no (a .t) (a .objects .now) (a .values .now) (s .pre .0) (s .pre .1 .1 .1) (j .judge-commit .ensures) (sym (c .before .accepts .ensures) ∙ not-true _ (c .if1 .taken)),
+      commit-no (a .t) (a .objects .now) (a .values .now) (s .pre .0) (s .pre .1 .1 .1) (j .judged .ensures) (sym (c .before .accepts .ensures) ∙ not-true _ (c .if1 .taken)),
       s .pre .1 .0,
     )
 
 -- the judge said yes
-yes : (c : tie.Else1) → acceptedB (judged (c .before) .judge-commit .result) ≡ true
+yes : (c : tie.Else1) → acceptedB (judged (c .before) .judged .result) ≡ true
 yes c = sym (c .before .accepts .ensures) ∙ not-false _ (c .if1 .left)
 
 apply-commit-requires : tie.Need-apply-commit-requires
@@ -44,7 +44,7 @@ apply-commit-requires c κs =
     let s = start j in
     let a = s .args in (
       ready s,
-      (s .pre .0 .past-rows, s .pre .1 .1 .1, commit-room (a .t) (a .objects .now) (a .values .now) (s .pre .0) (s .pre .1 .1 .1) (j .judge-commit .ensures) (yes e)),
+      (s .pre .0 .past-rows, s .pre .1 .1 .1, commit-room (a .t) (a .objects .now) (a .values .now) (s .pre .0) (s .pre .1 .1 .1) (j .judged .ensures) (yes e)),
     )
 
 heads-after-requires : tie.Need-heads-after-requires
@@ -57,11 +57,11 @@ returns-2 c =
     let j = judged (e .before) in
     let s = start j in
     let a = s .args in (
-      rw (c .heads-after .ensures) (commit-yes (a .t) (a .objects .now) (a .values .now) (s .pre .0) (s .pre .1 .1 .1) (j .judge-commit .ensures) (yes e) (w .apply-commit .ensures .0)),
+      rw (c .heads-after .ensures) (commit-yes (a .t) (a .objects .now) (a .values .now) (s .pre .0) (s .pre .1 .1 .1) (j .judged .ensures) (yes e) (w .apply-commit .ensures .0)),
       rw (c .heads-after .ensures) (w .apply-commit .ensures .1),
     )
 
 pub carry-spec : {M : Type 1} → statement M
 carry-spec =
     tie.close
-    (tie.spec judge-commit-requires accepts-requires returns apply-commit-requires heads-after-requires returns-2)
+    (tie.spec judged-requires accepts-requires returns apply-commit-requires heads-after-requires returns-2)
