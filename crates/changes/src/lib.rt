@@ -1,6 +1,6 @@
 // Commit, gossip and flush with their journal. None requires anything. Each judges everything, the room last, before it writes
 // anything, so a refused call has written nothing.
-pub mod adding;
+mod adding;
 pub mod committing;
 pub mod flushing;
 pub mod gossiping;
