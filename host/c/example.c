@@ -1,23 +1,13 @@
-/* The first items of the scope document's worked night, through the C header. At this folder:
+/* The first items of the scope document's worked night, through the C header. At this folder, once
+ * `rt staticlib repository` has built the library; the program goes to `target` too:
  *
- *     cc -std=c99 -Wall -Wextra -Werror example.c ../../target/staticlib/librepository.a -o example
- *     ./example
+ *     cc -std=c99 -Wall example.c ../../target/staticlib/librepository.a -o ../../target/example
+ *     ../../target/example
  */
 #include "jibcradle.h"
 
 #include <inttypes.h>
 #include <stdio.h>
-
-/* Fails to compile where a struct hasn't the size that the library was compiled with. */
-#define SIZE_IS(type, size) typedef char type##_size_is_##size[sizeof(type) == (size) ? 1 : -1]
-SIZE_IS(jibcradle_store, 39472);
-SIZE_IS(jibcradle_heads, 48);
-SIZE_IS(jibcradle_pending, 32);
-SIZE_IS(jibcradle_past, 32);
-SIZE_IS(jibcradle_copy, 16);
-SIZE_IS(jibcradle_moved, 24);
-SIZE_IS(jibcradle_reply, 16);
-SIZE_IS(jibcradle_report, 56);
 
 static jibcradle_store store;
 static uint8_t journal[4096];
@@ -25,8 +15,8 @@ static uint8_t journal[4096];
 /* Prints what a change answered, and hands its place on. */
 static size_t tell(const char *call, jibcradle_moved moved)
 {
-    printf("%-26s code %2" PRIu64 ", number %3" PRIu64 ", place %3zu\n", call, moved.code,
-           moved.number, moved.place);
+    printf("%-26s code %2" PRIu64 ", number %3" PRIu64 ", place %3zu: %s\n", call, moved.code,
+           moved.number, moved.place, jibcradle_code_name(moved.code));
     return moved.place;
 }
 
@@ -41,8 +31,8 @@ static void show(uint64_t time, uint64_t page)
 {
     uint64_t values[JIBCRADLE_SLOTS];
     jibcradle_reply reply = jibcradle_snapshot_read(&store, time, page, values, JIBCRADLE_SLOTS);
-    printf("read at time %-13" PRIu64 " code %2" PRIu64 ", number %3" PRIu64, time, reply.code,
-           reply.number);
+    printf("read at time %-13" PRIu64 " code %2" PRIu64 ", number %3" PRIu64 ": %s", time,
+           reply.code, reply.number, jibcradle_code_name(reply.code));
     if (reply.code == JIBCRADLE_DONE) {
         printf(", page %" PRIu64 ":", page);
         for (size_t slot = 0; slot < JIBCRADLE_SLOTS; slot++) {
@@ -71,6 +61,18 @@ static void stand(void)
            report.code, report.pending, report.past, report.snapshots, report.copies, report.lag);
 }
 
+/* Prints what the store knows. */
+static void know(void)
+{
+    jibcradle_knowledge known = jibcradle_known(&store);
+    printf("known: code %" PRIu64 ", horizon %" PRIu64 ", last commit %" PRIu64 ", snapshots:",
+           known.code, known.horizon, known.last);
+    for (size_t number = 0; number < known.count; number++) {
+        printf(" %" PRIu64, known.stamps[number]);
+    }
+    printf("\n");
+}
+
 int main(void)
 {
     const uint64_t snapshot = 105;
@@ -88,6 +90,7 @@ int main(void)
     used = tell("flush page 0", jibcradle_flush(&store, journal, sizeof journal, used, 0));
     used = tell("flush page 0 again", jibcradle_flush(&store, journal, sizeof journal, used, 0));
     stand();
+    know();
     tell("restart", jibcradle_restart(&store, journal, used));
     show(107, 0);
     return 0;

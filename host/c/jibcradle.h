@@ -1,4 +1,4 @@
-/* The proved store, for C and C++: one struct that holds the whole store, and nine calls on it.
+/* The proved store, for C and C++: one struct that holds the whole store, and ten calls on it.
  *
  * Link with librepository.a, which `rt staticlib repository` writes at the repository's top to
  * target/staticlib. x86-64 Linux.
@@ -63,6 +63,32 @@ enum {
     JIBCRADLE_CONTRADICTION = 17    /* a record isn't one that the rebuilt store would have
                                        written [offset of its length] */
 };
+
+/* The name of a code, as the command prints it; "Unknown" where no code has this number. */
+static inline const char *jibcradle_code_name(uint64_t code)
+{
+    switch (code) {
+    case JIBCRADLE_DONE: return "Done";
+    case JIBCRADLE_NOTHING: return "Nothing";
+    case JIBCRADLE_DAMAGED: return "Damaged";
+    case JIBCRADLE_SHAPE: return "Shape";
+    case JIBCRADLE_TWICE: return "Twice";
+    case JIBCRADLE_LATE: return "Late";
+    case JIBCRADLE_GAP: return "Gap";
+    case JIBCRADLE_CONFLICT: return "Conflict";
+    case JIBCRADLE_PENDING_FULL: return "Pending full";
+    case JIBCRADLE_PAST_FULL: return "Past full";
+    case JIBCRADLE_SNAPSHOTS_FULL: return "Snapshots full";
+    case JIBCRADLE_ARCHIVE_FULL: return "Archive full";
+    case JIBCRADLE_NO_JOURNAL_ROOM: return "No journal room";
+    case JIBCRADLE_AHEAD: return "Ahead";
+    case JIBCRADLE_NO_SNAPSHOT: return "No snapshot";
+    case JIBCRADLE_VERSION: return "Version";
+    case JIBCRADLE_MALFORMED: return "Malformed";
+    case JIBCRADLE_CONTRADICTION: return "Contradiction";
+    default: return "Unknown";
+    }
+}
 
 /* A modified object that hasn't gone to disk yet. */
 typedef struct {
@@ -133,6 +159,45 @@ typedef struct {
     int64_t lag; /* tick of the last commit minus tick of the horizon */
 } jibcradle_report;
 
+/* What known answers; all of it is 0 where the code isn't. */
+typedef struct {
+    uint64_t code;
+    uint64_t number;
+    uint64_t horizon; /* all snapshots up to here are known */
+    uint64_t last;    /* stamp of the last commit */
+    uint64_t count;   /* how many snapshots are known */
+    uint64_t stamps[JIBCRADLE_SNAPSHOTS]; /* they, ascending; 0 from count on */
+} jibcradle_knowledge;
+
+/* The layout that the library was compiled with: an array of -1 bytes, which no compiler takes,
+ * says that a size or an offset is another here. */
+#define JIBCRADLE_LAID(name, holds) typedef char jibcradle_laid_##name[(holds) ? 1 : -1]
+JIBCRADLE_LAID(word, sizeof(size_t) == 8);
+JIBCRADLE_LAID(pending, sizeof(jibcradle_pending) == 32);
+JIBCRADLE_LAID(past, sizeof(jibcradle_past) == 32);
+JIBCRADLE_LAID(copy, sizeof(jibcradle_copy) == 16);
+JIBCRADLE_LAID(heads, sizeof(jibcradle_heads) == 48);
+JIBCRADLE_LAID(heads_horizon, offsetof(jibcradle_heads, horizon) == 32);
+JIBCRADLE_LAID(store, sizeof(jibcradle_store) == 39472);
+JIBCRADLE_LAID(store_disk, offsetof(jibcradle_store, disk) == 0);
+JIBCRADLE_LAID(store_dated, offsetof(jibcradle_store, dated) == 4096);
+JIBCRADLE_LAID(store_pending, offsetof(jibcradle_store, pending) == 8192);
+JIBCRADLE_LAID(store_past, offsetof(jibcradle_store, past) == 12288);
+JIBCRADLE_LAID(store_snapshots, offsetof(jibcradle_store, snapshots) == 20480);
+JIBCRADLE_LAID(store_copies, offsetof(jibcradle_store, copies) == 20992);
+JIBCRADLE_LAID(store_copied, offsetof(jibcradle_store, copied) == 23040);
+JIBCRADLE_LAID(store_heads, offsetof(jibcradle_store, heads) == 39424);
+JIBCRADLE_LAID(moved, sizeof(jibcradle_moved) == 24);
+JIBCRADLE_LAID(moved_number, offsetof(jibcradle_moved, number) == 8);
+JIBCRADLE_LAID(moved_place, offsetof(jibcradle_moved, place) == 16);
+JIBCRADLE_LAID(reply, sizeof(jibcradle_reply) == 16);
+JIBCRADLE_LAID(reply_number, offsetof(jibcradle_reply, number) == 8);
+JIBCRADLE_LAID(report, sizeof(jibcradle_report) == 56);
+JIBCRADLE_LAID(report_lag, offsetof(jibcradle_report, lag) == 48);
+JIBCRADLE_LAID(knowledge, sizeof(jibcradle_knowledge) == 552);
+JIBCRADLE_LAID(knowledge_stamps, offsetof(jibcradle_knowledge, stamps) == 40);
+#undef JIBCRADLE_LAID
+
 /* Makes this a fresh store, whatever its bytes were. The place is 0: the journal counts as empty
  * from here. */
 jibcradle_moved jibcradle_fresh(jibcradle_store *store);
@@ -175,6 +240,9 @@ jibcradle_reply jibcradle_current_read(const jibcradle_store *store, uint64_t pa
 
 /* Counts the rows of the tables, and the lag. */
 jibcradle_report jibcradle_standing(const jibcradle_store *store);
+
+/* Tells the horizon, the last commit and all known snapshots. */
+jibcradle_knowledge jibcradle_known(const jibcradle_store *store);
 
 #ifdef __cplusplus
 }

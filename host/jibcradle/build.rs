@@ -23,17 +23,17 @@ fn main() {
     let folder = folder();
     let archive = folder.join(ARCHIVE);
     println!("cargo::rerun-if-changed={}", archive.display());
+    // Documentation and checks need no library; only what is linked does.
     if !archive.is_file() {
         println!(
-            "cargo::error={} isn't there. Build it by `rt staticlib repository` at the \
-             repository's top, or name its folder by the variable JIBCRADLE_LIB.",
+            "cargo::warning={} isn't there, so nothing can be linked. Build it by `rt staticlib \
+             repository` at the repository's top, or name its folder by the variable JIBCRADLE_LIB.",
             archive.display()
         );
-        return;
     }
     let folder = folder.canonicalize().unwrap_or(folder);
     println!("cargo::rustc-link-search=native={}", folder.display());
-    println!("cargo::rustc-link-lib=static=repository");
+    println!("cargo::rustc-link-lib=static:-bundle=repository");
     // For the test of the C example.
     println!("cargo::rustc-env=JIBCRADLE_ARCHIVE={}", folder.join(ARCHIVE).display());
 }

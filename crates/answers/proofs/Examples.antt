@@ -3,8 +3,9 @@ use mathlib.Core.Path.{_≡_, refl}
 use mathlib.Core.List.{[], _∷_}
 use lib.IntN.{pos, negsuc}
 use lib.ListN.{replicate}
-use Rattle.model.specs.declared.Answer.the-variants.{Done, Damaged, Late, NoRoom, Version}
-use Rattle.answers.specs.Says.{decimal, text, answerLine, openedLine, pageLine, standingLine, faultLine}
+use Rattle.model.specs.declared.Answer.the-variants.{Done, Damaged, Late, NoRoom, Version, Malformed}
+use Rattle.answers.specs.Says.{decimal, text, answerLine, openedLine, pageLine, knownLine, standingLine, faultLine}
+use Rattle.answers.specs.Records.{commitLine, gossipLine, flushLine, endLine, tornLine, refusalLine}
 
 largest : decimal 18446744073709551615 ≡ text "18446744073709551615"
 unfolding decimal
@@ -42,10 +43,50 @@ unsaid : standingLine Damaged (record { pending = 0; past = 0; snapshots = 0; co
 unfolding decimal standingLine
 unsaid = refl
 
-fault : faultLine 3 21 ≡ text "? a number of 2^64 or more at column 21\n"
+known : knownLine (Done 0) 110 120 (105 ∷ []) ≡ text "0 0 Done 110 120 105\n"
+unfolding decimal knownLine
+known = refl
+
+many : knownLine (Done 0) 110 120 (replicate 65 10) ≡ text "0 0 Done\n"
+unfolding decimal knownLine
+many = refl
+
+fault : faultLine 3 7 21 ≡ text "? a number of 2^64 or more at line 7 column 21\n"
 unfolding decimal faultLine
 fault = refl
 
-nofault : faultLine 6 1 ≡ text "? not a call at column 1\n"
+nofault : faultLine 6 1 1 ≡ text "? not a call at line 1 column 1\n"
 unfolding decimal faultLine
 nofault = refl
+
+nocall : faultLine 0 3 1 ≡ text "? no such call at line 3 column 1; help lists them\n"
+unfolding decimal faultLine
+nocall = refl
+
+commit : commitLine 100 (0 ∷ []) (7 ∷ []) 1 22 ≡ text "commit 100 0=7  # 1 22\n"
+unfolding decimal commitLine
+commit = refl
+
+unequal : commitLine 100 (0 ∷ 1 ∷ []) (7 ∷ []) 1 22 ≡ text "commit 100  # 1 22\n"
+unfolding decimal commitLine
+unequal = refl
+
+gossip : gossipLine 0 120 (105 ∷ 110 ∷ []) 23 34 ≡ text "gossip 0 120 105 110  # 23 34\n"
+unfolding decimal gossipLine
+gossip = refl
+
+flush : flushLine 3 57 10 ≡ text "flush 3  # 57 10\n"
+unfolding decimal flushLine
+flush = refl
+
+ending : endLine 67 ≡ text "# 67 end\n"
+unfolding decimal endLine
+ending = refl
+
+torn : tornLine 67 5 ≡ text "# 67 torn, 5 bytes\n"
+unfolding decimal tornLine
+torn = refl
+
+refusal : refusalLine (Malformed 67) ≡ text "# 16 67 Malformed\n"
+unfolding decimal refusalLine
+refusal = refl

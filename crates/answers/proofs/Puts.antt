@@ -10,21 +10,17 @@ use native.Mathlib.Omega.{arith}
 use lib.ListN.{length, take, set, getD, length-append, length-take, length-set, List·getD-eq-default}
 use lib.Seq.{take-all, take-suc, take-suc-set}
 use Rattle.answers.specs.Parts.{Put}
-use Rattle.answers.specs.Says.{Said, text, digit, decimal, spaced, nameOf, answerText, pageText, figuresText, faults, faultText}
+use Rattle.answers.specs.Says.{room, Said, text, digit, decimal, spaced, nameOf, answerText, faults, faultText}
+use Rattle.answers.specs.Records.{writeText, writesText}
 use Rattle.model.specs.Lists.{pick, both}
 use Rattle.model.specs.Answers.{codeOf, numberOf, isDone}
 use Rattle.model.specs.declared.Answer.{Answer}
-use Rattle.model.specs.declared.Figures.{Figures}
 use Rattle.answers.proofs.Decimals.{decimal-one, decimal-more, decimal-short}
 
-both-false : (b : Bool) (xs : List ℕ) → pick (both b false) xs [] ≡ []
-both-false true xs = refl
-both-false false xs = refl
-
-pub put-none : (j : List ℕ) (at : ℕ) → length j ≡ 512 → Put [] j at j at
+pub put-none : (j : List ℕ) (at : ℕ) → length j ≡ room → Put [] j at j at
 put-none j at l = record { front = sym (append-nil (take at j)); count = omega arith; room = l }
 
-pub put-one : (j : List ℕ) (at b : ℕ) → length j ≡ 512 → at < 512 → Put (b ∷ []) j at (set j at b) (at + 1)
+pub put-one : (j : List ℕ) (at b : ℕ) → length j ≡ room → at < room → Put (b ∷ []) j at (set j at b) (at + 1)
 put-one j at b l h =
     let i : at < length j = omega arith in
     record { front = rw (add-one, take-suc-set j at b i); count = refl; room = simp length-set l }
@@ -37,10 +33,10 @@ put-then {xs} {ys} {j} {j₁} {j₂} {at} p q = record {
 }
 
 -- ---- a slice's bytes, one at a time
-pub bytes-none : (j : List ℕ) (at : ℕ) (t : List ℕ) → length j ≡ 512 → Put (take 0 t) j at j (at + 0)
+pub bytes-none : (j : List ℕ) (at : ℕ) (t : List ℕ) → length j ≡ room → Put (take 0 t) j at j (at + 0)
 bytes-none j at t l = rw add-zero (put-none j at l)
 
-pub bytes-next : {j j₁ : List ℕ} {at : ℕ} (t : List ℕ) (i : ℕ) → i < length t → at + i < 512 → Put (take i t) j at j₁ (at + i)
+pub bytes-next : {j j₁ : List ℕ} {at : ℕ} (t : List ℕ) (i : ℕ) → i < length t → at + i < room → Put (take i t) j at j₁ (at + i)
     → Put (take (i + 1) t) j at (set j₁ (at + i) (getD t i 0)) (at + (i + 1))
 bytes-next {j} {j₁} {at} t i h g p = rw (← add-assoc at i 1, add-one i, take-suc t i 0 h) (put-then p (put-one j₁ (at + i) (getD t i 0) (p .room) g))
 
@@ -71,26 +67,50 @@ words-next ns i h p q = rw (add-one, take-suc ns i 0 h, spaced-next) (put-then p
 pub words-end : {j j₁ : List ℕ} {at at₁ : ℕ} (ns : List ℕ) (i : ℕ) → length ns ≤ i → Put (spaced (take i ns)) j at j₁ at₁ → Put (spaced ns) j at j₁ at₁
 words-end ns i h p = rw (take-all i ns h) at p
 
--- ---- what stands behind an answer, and what does not
+-- ---- the same for writes
+writes-after : (os vs : List ℕ) (o v : ℕ) → length os ≡ length vs → writesText (os ++ (o ∷ [])) (vs ++ (v ∷ [])) ≡ writesText os vs ++ writeText o v
+writes-after [] [] o v h = append-nil (writeText o v)
+writes-after [] (w ∷ vs) o v h = absurd (omega arith)
+writes-after (p ∷ os) [] o v h = absurd (omega arith)
+writes-after (p ∷ os) (w ∷ vs) o v h = ap (λ (l : List ℕ). writeText p w ++ l) (writes-after os vs o v (omega arith)) ∙ sym (append-assoc (writeText p w) (writesText os vs) (writeText o v))
+
+pub writes-next : {j j₁ j₂ : List ℕ} {at at₁ at₂ : ℕ} (os vs : List ℕ) (i : ℕ) → length os ≡ length vs → i < length os → Put (writesText (take i os) (take i vs)) j at j₁ at₁
+    → Put (writeText (getD os i 0) (getD vs i 0)) j₁ at₁ j₂ at₂ → Put (writesText (take (i + 1) os) (take (i + 1) vs)) j at j₂ at₂
+writes-next os vs i e h p q =
+    let g : i < length vs = omega arith in
+    let l : length (take i os) ≡ length (take i vs) = simp (length-take, e) in
+    rw (add-one, take-suc os i 0 h, take-suc vs i 0 g, writes-after (take i os) (take i vs) (getD os i 0) (getD vs i 0) l) (put-then p q)
+
+pub writes-end : {j j₁ : List ℕ} {at at₁ : ℕ} (os vs : List ℕ) (i : ℕ) → length os ≤ i → length vs ≤ i → Put (writesText (take i os) (take i vs)) j at j₁ at₁ → Put (writesText os vs) j at j₁ at₁
+writes-end os vs i h g p = rw (take-all i os h, take-all i vs g) at p
+
+-- ---- what stands there where a test holds, and not where it fails
+pub put-shown : {b : Bool} {xs j j₁ : List ℕ} {at at₁ : ℕ} → b ≡ true → Put xs j at j₁ at₁ → Put (pick b xs []) j at j₁ at₁
+put-shown e p = rw e p
+
+pub put-hidden : {b : Bool} (xs j : List ℕ) (at : ℕ) → length j ≡ room → b ≡ false → Put (pick b xs []) j at j at
+put-hidden xs j at l e = rw e (put-none j at l)
+
+pub both-yes : {b c : Bool} → b ≡ true → c ≡ true → both b c ≡ true
+both-yes e f = rw (e, f)
+
+pub left-no : {b : Bool} (c : Bool) → b ≡ false → both b c ≡ false
+left-no c e = rw e
+
+pub right-no : (b : Bool) {c : Bool} → c ≡ false → both b c ≡ false
+right-no true e = e
+right-no false e = refl
+
 module _ (a : Answer) {k : ℕ} (e : k ≡ codeOf a) where
   pub answer-all : {n : ℕ} {j j₁ j₂ j₃ j₄ : List ℕ} {at at₁ at₂ at₃ at₄ : ℕ} → n ≡ numberOf a → Put (decimal k) j at j₁ at₁ → Put (text " " ++ decimal n) j₁ at₁ j₂ at₂
       → Put (text " ") j₂ at₂ j₃ at₃ → Put (nameOf a) j₃ at₃ j₄ at₄ → Put (answerText a) j at j₄ at₄
   answer-all f p q s t = put-then (put-then (put-then (rw e at p) (rw f at q)) s) t
 
-  pub page-shown : (ws : List ℕ) → k ≡ 0 → length ws ≡ 16 → spaced ws ≡ pageText a ws
-  page-shown ws z l = rw (eq-eqb (codeOf a) 0 (sym e ∙ z), eq-eqb (length ws) 16 l)
+  pub is-done : k ≡ 0 → isDone a ≡ true
+  is-done z = eq-eqb (codeOf a) 0 (sym e ∙ z)
 
-  pub page-short : (ws : List ℕ) → (length ws ≡ 16 → ⊥) → [] ≡ pageText a ws
-  page-short ws l = rw (ne-eqb (length ws) 16 l) (sym (both-false (isDone a) (spaced ws)))
-
-  pub page-refused : (ws : List ℕ) → (k ≡ 0 → ⊥) → [] ≡ pageText a ws
-  page-refused ws z = rw (ne-eqb (codeOf a) 0 (λ w. z (e ∙ w)))
-
-  pub figures-shown : (f : Figures) → k ≡ 0 → figuresText f ≡ pick (isDone a) (figuresText f) []
-  figures-shown f z = rw (eq-eqb (codeOf a) 0 (sym e ∙ z))
-
-  pub figures-refused : (f : Figures) → (k ≡ 0 → ⊥) → [] ≡ pick (isDone a) (figuresText f) []
-  figures-refused f z = rw (ne-eqb (codeOf a) 0 (λ w. z (e ∙ w)))
+  pub not-done : (k ≡ 0 → ⊥) → isDone a ≡ false
+  not-done z = ne-eqb (codeOf a) 0 (λ w. z (e ∙ w))
 
 pub put-as : {xs ys j j₁ : List ℕ} {at at₁ : ℕ} → xs ≡ ys → Put xs j at j₁ at₁ → Put ys j at j₁ at₁
 put-as e p = rw e at p

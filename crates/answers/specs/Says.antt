@@ -14,6 +14,10 @@ use Rattle.model.specs.declared.Figures.{Figures}
 use Rattle.model.specs.declared.Answer.{Answer}
 use Rattle.model.specs.declared.Answer.the-variants.{Done, Nothing, Damaged, Shape, Twice, Late, Gap, Conflict, PendingFull, PastFull, SnapshotsFull, ArchiveFull, NoRoom, Ahead, NoSnapshot, Version, Malformed, Contradiction}
 
+-- ---- how many bytes are lent
+abbrev pub room : ℕ
+room = 2048
+
 -- ---- texts: a byte for each character
 abbrev pub text : String → List ℕ
 text end = []
@@ -93,6 +97,13 @@ pageText a ws = pick (both (isDone a) (eqb (length ws) 16)) (spaced ws) []
 unfoldable pub pageLine : Answer → List ℕ → List ℕ
 pageLine a ws = answerText a ++ pageText a ws ++ text "\n"
 
+-- what is known stands behind the answer where it is Done and there are at most 64 stamps: the horizon, the last stamp, the stamps
+abbrev pub knownText : Answer → ℕ → ℕ → List ℕ → List ℕ
+knownText a horizon last stamps = pick (both (isDone a) (leb (length stamps) 64)) (spaced (horizon ∷ last ∷ stamps)) []
+
+unfoldable pub knownLine : Answer → ℕ → ℕ → List ℕ → List ℕ
+knownLine a horizon last stamps = answerText a ++ knownText a horizon last stamps ++ text "\n"
+
 -- the figures stand behind the answer where it is Done: pending, past, snapshots, copies, and the lag with its sign
 abbrev pub figuresText : Figures → List ℕ
 figuresText f = spaced (f .pending ∷ f .past ∷ f .snapshots ∷ f .copies ∷ []) ++ text " " ++ signed (f .lag)
@@ -114,13 +125,20 @@ faults =
 abbrev pub faultText : ℕ → List ℕ
 faultText fault = getD faults fault (text "not a call")
 
-unfoldable pub faultLine : ℕ → ℕ → List ℕ
-faultLine fault column = text "? " ++ faultText fault ++ text " at column " ++ decimal column ++ text "\n"
+abbrev pub positionText : ℕ → ℕ → List ℕ
+positionText line column = text " at line " ++ decimal line ++ text " column " ++ decimal column
 
--- ---- what a call of the library leaves: the line stands at the front of the 512 lent bytes, and r is how many bytes it has
+-- what to do about it, where there is no such call
+abbrev pub hintText : ℕ → List ℕ
+hintText fault = pick (eqb fault 0) (text "; help lists them") []
+
+unfoldable pub faultLine : ℕ → ℕ → ℕ → List ℕ
+faultLine fault line column = text "? " ++ faultText fault ++ positionText line column ++ hintText fault ++ text "\n"
+
+-- ---- what a call of the library leaves: the line stands at the front of the lent bytes, and r is how many bytes it has
 pub record Said (line out : List ℕ) (r : ℕ) : Type 0 where
   pub said : take r out ≡ line
-  pub count : r ≤ 512
-  pub room : length out ≡ 512
+  pub count : r ≤ room
+  pub room : length out ≡ room
   -- this follows, and is what `&out[..r]` asks
   pub counted : r ≡ length (take r out)

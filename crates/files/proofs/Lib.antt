@@ -1,1 +1,3 @@
+pub mod ByPath
+pub mod Lent
 pub mod Signs

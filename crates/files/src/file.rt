@@ -1,5 +1,7 @@
 // The journal's file. The descriptor -1 stands for a journal in memory, which needs none of this.
+use crate::identity;
 use crate::paths;
+use crate::torn;
 use crate::trouble;
 ghost use Prim.Native.Nat.{_+_, _≤_};
 ghost use lib.ListN.{length};
@@ -10,7 +12,7 @@ fn offset(at: usize) -> i64 {
 }
 
 // Waits until the file's name is in its folder for good.
-fn is_named(path: &[u8]) -> bool {
+pub fn is_named(path: &[u8]) -> bool {
     let mut name = io::buffer();
     let n = paths::folder(path, &mut name);
     let folder = os::open_read(&name[..n]);
@@ -95,10 +97,10 @@ fn is_cut(path: &[u8], file: i32, to: usize) -> bool {
     false
 }
 
-// The file holds so many of the bytes that were read, for good.
-pub fn is_settled(path: &[u8], file: i32, to: usize, read: usize) -> bool {
-    if to < read {
-        return is_cut(path, file, to);
+// The file holds the bytes that were read up to a place, for good. Those behind it are kept elsewhere before they are cut.
+pub fn is_settled(path: &[u8], file: i32, read: &[u8], to: usize) -> bool {
+    if to < read.len() {
+        return torn::is_kept(path, &read[to..]) && is_cut(path, file, to);
     }
     if libc::fdatasync(file) == 0 {
         return true;
@@ -143,10 +145,27 @@ fn is_ours(path: &[u8], file: i32, end: usize) -> bool {
     true
 }
 
+// The name still leads to the open file. Records in a file without a name would be lost.
+fn is_there(path: &[u8], file: i32) -> bool {
+    let held = identity::of_open(file);
+    let named = identity::of_name(path);
+    if identity::is_same(held, named) {
+        return true;
+    }
+    trouble::say(
+        path,
+        b"the open file is no longer at this name; nothing more is written",
+    );
+    false
+}
+
 // The journal's bytes from old to new are in the file for good. Where they aren't, the file is cut back to what it was.
 pub fn is_saved(path: &[u8], file: i32, journal: &[u8], old: usize, new: usize) -> bool {
     if file < 0 {
         return true;
+    }
+    if !is_there(path, file) {
+        return false;
     }
     if !is_ours(path, file, old) {
         return false;
@@ -164,22 +183,28 @@ pub fn is_saved(path: &[u8], file: i32, journal: &[u8], old: usize, new: usize) 
 pub enum Renewal {
     File(i32),
     Barred,
+    Linked,
     Failed,
 }
 
-// No file has this name.
+// Nothing has this name, not even a link that leads nowhere.
 pub fn is_free(name: &[u8]) -> bool {
-    let there = os::open_read(name);
-    if there < 0 {
-        return os::errno() == libc::ENOENT;
+    let there = identity::of_entry(name);
+    if there.found {
+        return false;
     }
-    libc::close(there);
-    false
+    os::errno() == libc::ENOENT
 }
 
 pub fn renew(path: &[u8], file: i32) -> Renewal {
     if file < 0 {
         return Renewal::File(file);
+    }
+    if identity::is_link(identity::of_entry(path)) {
+        return Renewal::Linked;
+    }
+    if !is_there(path, file) {
+        return Renewal::Failed;
     }
     let mut name = io::buffer();
     let n = paths::joined(path, b".old", &mut name);

@@ -1,122 +1,85 @@
-// The lock: JOURNAL.lock holds the number of the process that has the journal.
+// The lock: JOURNAL.lock holds the line of the process that has the journal.
 use crate::file;
+use crate::holder;
+use crate::identity;
 use crate::paths;
 use crate::trouble;
-ghost use Prim.Native.Nat.{_≤_};
+use crate::wait;
+ghost use Rattle.io.specs.Counts.{Counts};
 
-// No such process.
-const ESRCH: i32 = 3;
+// Seconds for a lock without a line, whose process may be about to write it; and for a process to go, which may be about to.
+const UNWRITTEN: u64 = 5;
 
-// Tries of a lock without a number, whose process may be about to write it, and the seconds that they may last: on a busy machine
-// each try may be long.
-const TRIES: u64 = 100000;
+const GOING: u64 = 1;
 
-const SECONDS: u64 = 5;
-
-fn own() -> u64 {
-    let process = libc::getpid();
-    if process < 0 { 0 } else { process as u64 }
+// A line has its end.
+fn is_whole(line: &[u8]) -> bool {
+    let n = line.len();
+    if n == 0 {
+        return false;
+    }
+    if line[n - 1] != b'\n' {
+        return false;
+    }
+    paths::number(line) != 0
 }
 
-// The value of a digit, or 10.
-fn digit(b: u8) -> u64
-    ensures { λ r. ⌜ r ≤ 10 ⌝ }
+// The line in a lock, or none where it isn't whole.
+fn line_in(lock: &[u8], out: &mut [u8]) -> usize
+    ensures { λ r. ⌜ Counts r (now (out .exit)) ⌝ }
 {
-    if b < b'0' {
-        return 10;
+    let n = holder::text_of(lock, out);
+    if is_whole(&out[..n]) {
+        return n;
     }
-    if b'9' < b {
-        return 10;
-    }
-    (b - b'0') as u64
+    paths::within(0, out)
 }
 
-// The decimal number before the newline, or 0 where there is none.
-fn number(text: &[u8]) -> u64 {
-    let mut n: u64 = 0;
-    let mut i: usize = 0;
-    while i < text.len() {
-        if text[i] == b'\n' {
+// The same, after some waiting for a line while the lock is there.
+fn awaited(lock: &[u8], out: &mut [u8]) -> usize
+    ensures { λ r. ⌜ Counts r (now (out .exit)) ⌝ }
+{
+    let mut waiting = wait::begun(UNWRITTEN);
+    while 0 < waiting.left {
+        let n = line_in(lock, out);
+        if 0 < n {
             return n;
         }
-        let d = digit(text[i]);
-        if d == 10 {
-            return 0;
+        if file::is_free(lock) {
+            return paths::within(0, out);
         }
-        if 200000000 < n {
-            return 0;
-        }
-        n = n * 10 + d;
-        i += 1;
+        waiting = waiting.next();
     }
-    0
+    paths::within(0, out)
 }
 
-// The process's number in a lock, or 0 where it has none.
-fn holder(lock: &[u8]) -> u64 {
-    let file = os::open_read(lock);
-    if file < 0 {
-        return 0;
-    }
-    let mut text = [0u8; 16];
-    let got = libc::read(file, &mut text);
-    libc::close(file);
-    let n = io::count(got, &text);
-    number(&text[..n])
-}
-
-// The clock's second.
-fn second() -> i64 {
-    let mut now: i64 = 0;
-    libc::time(&mut now)
-}
-
-// The same, after some waiting for a number. The clock may be set meanwhile, so only that its second changes is looked at.
-fn awaited(lock: &[u8]) -> u64 {
-    let mut left = TRIES;
-    let mut seconds: u64 = 0;
-    let mut now = second();
-    while 0 < left {
-        let process = holder(lock);
-        if process != 0 {
-            return process;
+// The process of a line is gone, after some waiting: one that was killed may still be going.
+fn is_gone(line: &[u8]) -> bool {
+    let mut waiting = wait::begun(GOING);
+    while 0 < waiting.left {
+        if !holder::lives(line) {
+            return true;
         }
-        libc::sched_yield();
-        left -= 1;
-        let then = now;
-        now = second();
-        if now != then {
-            if seconds == SECONDS {
-                return 0;
-            }
-            seconds += 1;
-        }
+        waiting = waiting.next();
     }
-    0
+    false
 }
 
-// A lock with our own number is left from an earlier process that had it.
-fn lives(process: u64) -> bool {
-    if process == 0 {
-        return false;
-    }
-    if process == own() {
-        return false;
-    }
-    if 2147483647 < process {
-        return false;
-    }
-    if 0 <= libc::getpgid(process as i32) {
-        return true;
-    }
-    os::errno() != ESRCH
+fn has_our_line(lock: &[u8]) -> bool {
+    let mut ours = [0u8; 128];
+    let n = holder::own_line(&mut ours);
+    let mut found = [0u8; 128];
+    let m = line_in(lock, &mut found);
+    paths::is_same(&ours[..n], &found[..m])
 }
 
 fn write_own(file: i32) -> bool {
-    io::print_decimal(file, own()) && io::write_all(file, b"\n")
+    let mut line = [0u8; 128];
+    let n = holder::own_line(&mut line);
+    io::write_all(file, &line[..n])
 }
 
-// The number goes into a lock that was just made. It's ours if it's then still there.
+// The line goes into a lock that was just made. It's ours if it's then still there.
 fn is_ours(lock: &[u8], file: i32) -> bool {
     let done = write_own(file);
     if !done {
@@ -127,7 +90,7 @@ fn is_ours(lock: &[u8], file: i32) -> bool {
         os::unlink(lock);
         return false;
     }
-    if holder(lock) != own() {
+    if !has_our_line(lock) {
         trouble::say(lock, b"another program has taken it");
         return false;
     }
@@ -149,9 +112,15 @@ fn is_guarded(guard: &[u8]) -> bool {
     if 0 <= file {
         return is_ours(guard, file);
     }
-    let process = awaited(guard);
-    if lives(process) {
-        trouble::say_of(guard, process, b" is taking the lock over");
+    if identity::is_folder(identity::of_name(guard)) {
+        trouble::say(guard, b"it is a folder, where the lock's guard should be");
+        return false;
+    }
+    let mut line = [0u8; 128];
+    let n = awaited(guard, &mut line);
+    let held = &line[..n];
+    if !is_gone(held) {
+        trouble::say_of(guard, paths::number(held), b" is taking the lock over");
         return false;
     }
     os::unlink(guard);
@@ -159,62 +128,99 @@ fn is_guarded(guard: &[u8]) -> bool {
 }
 
 // Takes away the lock of a process that is gone. It is read again behind the guard JOURNAL.lock.take, since another program may have
-// taken it over meanwhile.
-fn is_removed(lock: &[u8], process: u64) -> bool {
+// taken it over, or away, meanwhile.
+fn is_removed(lock: &[u8], held: &[u8]) -> bool {
     let mut guard = io::buffer();
     let n = paths::joined(lock, b".take", &mut guard);
     if !is_guarded(&guard[..n]) {
         return false;
     }
-    let same = awaited(lock) == process;
+    let mut line = [0u8; 128];
+    let m = awaited(lock, &mut line);
+    let same = paths::is_same(held, &line[..m]);
     if same {
         os::unlink(lock);
-    } else {
+    }
+    let free = file::is_free(lock);
+    os::unlink(&guard[..n]);
+    if !free {
         trouble::say(lock, b"another program has taken it");
     }
-    os::unlink(&guard[..n]);
-    same
+    free
 }
 
-fn is_taken_over(lock: &[u8]) -> bool {
-    let process = awaited(lock);
-    if lives(process) {
-        trouble::say_of(lock, process, b" has the journal");
-        return false;
-    }
-    if file::is_free(lock) {
-        return is_made(lock);
-    }
-    if !is_removed(lock, process) {
-        return false;
-    }
+fn say_taken_over(lock: &[u8], process: u64) {
     if process == 0 {
         trouble::say(lock, b"there was no process in it; it is taken over");
     } else {
         trouble::say_of(lock, process, b" is gone; its lock is taken over");
     }
+}
+
+fn say_held(path: &[u8], process: u64, lock: &[u8]) {
+    trouble::begin(path, b"process ");
+    trouble::number(process);
+    trouble::more(b" has the journal; its lock is ");
+    trouble::end(lock);
+}
+
+fn is_taken_over(path: &[u8], lock: &[u8]) -> bool {
+    let mut line = [0u8; 128];
+    let n = awaited(lock, &mut line);
+    let held = &line[..n];
+    let process = paths::number(held);
+    if !is_gone(held) {
+        say_held(path, process, lock);
+        return false;
+    }
+    if file::is_free(lock) {
+        return is_made(lock);
+    }
+    if !is_removed(lock, held) {
+        return false;
+    }
+    say_taken_over(lock, process);
     is_made(lock)
 }
 
 // The lock is ours. If not, there was a word on standard error.
 pub fn is_taken(path: &[u8]) -> bool {
-    let mut lock = io::buffer();
-    let n = paths::joined(path, b".lock", &mut lock);
-    let file = os::create(&lock[..n]);
+    let mut name = io::buffer();
+    let n = paths::joined(path, b".lock", &mut name);
+    let lock = &name[..n];
+    let file = os::create(lock);
     if 0 <= file {
-        return is_ours(&lock[..n], file);
+        return is_ours(lock, file);
     }
     if os::errno() != libc::EEXIST {
-        os::fail(&lock[..n]);
+        trouble::begin(path, b"no lock can be made: ");
+        os::fail(lock);
         return false;
     }
-    is_taken_over(&lock[..n])
+    if identity::is_folder(identity::of_name(lock)) {
+        trouble::say(lock, b"it is a folder, where the lock should be");
+        return false;
+    }
+    is_taken_over(path, lock)
 }
 
 pub fn release(path: &[u8]) {
-    let mut lock = io::buffer();
-    let n = paths::joined(path, b".lock", &mut lock);
-    if holder(&lock[..n]) == own() {
-        os::unlink(&lock[..n]);
+    let mut name = io::buffer();
+    let n = paths::joined(path, b".lock", &mut name);
+    if has_our_line(&name[..n]) {
+        os::unlink(&name[..n]);
+    }
+}
+
+// Takes the lock away, without a word, if its process is gone: after a signal, which no program of the kit can catch.
+pub fn clear(path: &[u8]) {
+    let mut name = io::buffer();
+    let n = paths::joined(path, b".lock", &mut name);
+    let lock = &name[..n];
+    let mut line = [0u8; 128];
+    let m = line_in(lock, &mut line);
+    let held = &line[..m];
+    if 0 < m && is_gone(held) {
+        is_removed(lock, held);
     }
 }

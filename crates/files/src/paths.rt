@@ -1,4 +1,5 @@
-// Bytes put together: names of files made from the journal's name, and counts within a slice.
+// Bytes put together and taken apart: names of files made from the journal's name, numbers, counts within a slice.
+ghost use Prim.Native.Nat.{_≤_};
 ghost use Rattle.io.specs.Counts.{Counts};
 
 // The longest name of a journal: with what is put behind it, it is still a path.
@@ -61,4 +62,58 @@ pub fn folder(path: &[u8], out: &mut [u8]) -> usize
         return append(out, 0, &path[..n]);
     }
     append(out, 0, b".")
+}
+
+// The number's digits, put into out from a place on.
+pub fn append_number(out: &mut [u8], at: usize, n: u64) -> usize
+    ensures { λ r. ⌜ Counts r (now (out .exit)) ⌝ }
+{
+    let mut digits = [0u8; 20];
+    let k = io::decimal(n, &mut digits);
+    append(out, at, &digits[..k])
+}
+
+// The value of a digit, or 10.
+fn digit(b: u8) -> u64
+    ensures { λ r. ⌜ r ≤ 10 ⌝ }
+{
+    if b < b'0' {
+        return 10;
+    }
+    if b'9' < b {
+        return 10;
+    }
+    (b - b'0') as u64
+}
+
+// The number that the digits at the front make: 0 where there are none, and where it would be too large.
+pub fn number(text: &[u8]) -> u64 {
+    let mut n: u64 = 0;
+    let mut i: usize = 0;
+    while i < text.len() {
+        let d = digit(text[i]);
+        if d == 10 {
+            return n;
+        }
+        if 1000000000000000000 < n {
+            return 0;
+        }
+        n = n * 10 + d;
+        i += 1;
+    }
+    n
+}
+
+pub fn is_same(a: &[u8], b: &[u8]) -> bool {
+    if a.len() != b.len() {
+        return false;
+    }
+    let mut i: usize = 0;
+    while i < a.len() {
+        if a[i] != b[i] {
+            return false;
+        }
+        i += 1;
+    }
+    true
 }

@@ -12,7 +12,7 @@ use Rattle.model.specs.Store.{Store}
 use Rattle.model.specs.Damage.{damaged}
 use Rattle.model.specs.Changes.{Change, flush, after}
 use Rattle.model.specs.Judgement.{judge}
-use Rattle.model.specs.Reads.{readShaped, largest, snapshotAnswer, readAt, currentRead, standing}
+use Rattle.model.specs.Reads.{readShaped, largest, snapshotAnswer, readAt, currentRead, standing, known}
 use Rattle.model.specs.Calls.{change}
 use Rattle.model.specs.Restart.{resumed, restart}
 use Rattle.history.specs.History.{replay, AllAccepted}
@@ -50,6 +50,10 @@ module _ (st : Store) (d : damaged st ≡ false) where
   standing-sound : NotDamaged (standing st .answer)
   unfolding standing
   standing-sound = rw d (λ e. absurd (omega arith))
+
+  known-sound : NotDamaged (known st .answer)
+  unfolding known
+  known-sound = rw d (λ e. absurd (omega arith))
 
 -- ---- what is read after an accepted history
 shows-history : (h : List Change) → AllAccepted h → (p : ℕ) (buffer : List ℕ) → p < 32 → length buffer ≡ 16 → Reads h (replay h) p buffer
@@ -118,6 +122,7 @@ demand-three j es y =
         clocks = λ tick p buffer. read-sound (m .store) d (leb tick lastTick) _ p buffer;
         currents = λ p buffer. current-sound (m .store) d p buffer;
         stands = standing-sound (m .store) d;
+        knows = known-sound (m .store) d;
       };
       flush-alters-nothing = unaltered m f;
       restart-cut = restarts-cut m f;

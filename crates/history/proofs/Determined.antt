@@ -18,7 +18,7 @@ use Rattle.model.specs.Store.{Store, fresh, pageAsOf, pageNow}
 use Rattle.model.specs.Damage.{damaged}
 use Rattle.model.specs.Changes.{Change}
 use Rattle.model.specs.Judgement.{judge}
-use Rattle.model.specs.Reads.{shown, readShaped, snapshotAnswer, readAt, currentRead, Stood, standing}
+use Rattle.model.specs.Reads.{shown, readShaped, snapshotAnswer, readAt, currentRead, Stood, standing, Knowledge, known}
 use Rattle.model.specs.Records.{Step, end, short, malformed, whole, stepAt}
 use Rattle.model.specs.Calls.{change}
 use Rattle.model.specs.Restart.{Restarted, admitted, stepped, walk, freshStart, versioned, restart}
@@ -79,7 +79,7 @@ restart-refused j = pick-all Clean (ltb mostJournal (length j)) (λ e n. (refl, 
 
 -- DEMAND 1
 pub demand-one : DemandOne
-unfolding standing
+unfolding standing known
 demand-one = record {
   commit-one = λ st j used t os vs. one-outcome _;
   gossip-one = λ st j used prev curr stamps. one-outcome _;
@@ -88,6 +88,7 @@ demand-one = record {
   clock-one = λ st tick p buffer. one-outcome _;
   current-one = λ st p buffer. one-outcome _;
   standing-one = λ st. one-outcome _;
+  known-one = λ st. one-outcome _;
   restart-one = λ j. one-outcome _;
   fresh-one = one-outcome _;
   commit-refused = λ st j used t os vs. change-refused st j used _ _;
@@ -99,5 +100,8 @@ demand-one = record {
   standing-refused = λ st.
       pick-all (λ (s : Stood). NotDone (s .answer) → s .figures ≡ record { pending = 0; past = 0; snapshots = 0; copies = 0; lag = pos 0 }) (damaged st)
       (λ d r. refl) (λ d r. absurd (r refl));
+  known-refused = λ st.
+      pick-all (λ (k : Knowledge). NotDone (k .answer) → (k .horizon ≡ 0) × (k .last ≡ 0) × (k .snapshots ≡ [])) (damaged st)
+      (λ d r. (refl, refl, refl)) (λ d r. absurd (r refl));
   restart-refused = restart-refused;
 }

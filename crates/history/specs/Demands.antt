@@ -12,7 +12,7 @@ use Rattle.model.specs.Answers.{codeOf}
 use Rattle.model.specs.Store.{Store, fresh, objectAt, page16}
 use Rattle.model.specs.Damage.{damaged}
 use Rattle.model.specs.Changes.{Change, commit, gossip, flush, paired}
-use Rattle.model.specs.Reads.{Shown, snapshotRead, clockRead, currentRead, standing}
+use Rattle.model.specs.Reads.{Shown, snapshotRead, clockRead, currentRead, standing, known}
 use Rattle.model.specs.Records.{encode}
 use Rattle.model.specs.Calls.{version, Outcome, commitCall, gossipCall, flushCall}
 use Rattle.model.specs.Restart.{Restarted, resumed, freshStart, restart}
@@ -46,6 +46,7 @@ pub record DemandOne : Type 0 where
   pub clock-one : (st : Store) (tick p : ℕ) (buffer : List ℕ) → One (clockRead st tick p buffer)
   pub current-one : (st : Store) (p : ℕ) (buffer : List ℕ) → One (currentRead st p buffer)
   pub standing-one : (st : Store) → One (standing st)
+  pub known-one : (st : Store) → One (known st)
   pub restart-one : (j : List ℕ) → One (restart j)
   pub fresh-one : One freshStart
   pub commit-refused : (st : Store) (j : List ℕ) (used t : ℕ) (os vs : List ℕ) → Unchanged st j used (commitCall st j used t os vs)
@@ -56,6 +57,7 @@ pub record DemandOne : Type 0 where
   pub current-refused : (st : Store) (p : ℕ) (buffer : List ℕ) → Unshown buffer (currentRead st p buffer)
   pub standing-refused : (st : Store) → NotDone (standing st .answer)
       → standing st .figures ≡ record { pending = 0; past = 0; snapshots = 0; copies = 0; lag = pos 0 }
+  pub known-refused : (st : Store) → NotDone (known st .answer) → (known st .horizon ≡ 0) × (known st .last ≡ 0) × (known st .snapshots ≡ [])
   pub restart-refused : (j : List ℕ) → NotDone (restart j .answer) → (restart j .store ≡ fresh) × (restart j .place ≡ 0)
 
 -- ---- Demand 2, of every machine that a run reaches. The used bytes are opened by the version byte
@@ -117,6 +119,7 @@ pub record Undamaged (m : Machine) : Type 0 where
   pub clocks : (tick p : ℕ) (buffer : List ℕ) → NotDamaged (clockRead (m .store) tick p buffer .answer)
   pub currents : (p : ℕ) (buffer : List ℕ) → NotDamaged (currentRead (m .store) p buffer .answer)
   pub stands : NotDamaged (standing (m .store) .answer)
+  pub knows : NotDamaged (known (m .store) .answer)
 
 -- the two stores are read alike, with any arguments
 pub record ReadAlike (st u : Store) : Type 0 where

@@ -5,9 +5,11 @@ use changes::settling::Changed;
 use files::file;
 use files::file::Renewal;
 use files::paths;
+use files::room;
 use journal::place::Place;
 use lines::Call;
 use model::Answer;
+use reads::Knowledge;
 use restart::Started;
 use tables::Copied;
 use tables::CopyTable;
@@ -18,24 +20,40 @@ use tables::PendingTable;
 use tables::Snapshots;
 ghost use Rattle.io.specs.Counts.{Counts};
 
-// What stands between two calls, the tables aside: the journal's file, or -1 in memory, and whether another call is taken.
+// What stands between two calls, the tables aside: the journal's file, or -1 in memory, whether another call is taken, and whether
+// all was served so far.
 pub struct Desk {
     pub heads: Heads,
     pub place: Place,
     pub file: i32,
     pub going: bool,
+    pub served: bool,
 }
 
 impl Desk {
     // The same store, after an answer that was given or not.
-    fn after(self, going: bool) -> Desk {
+    fn after(self, given: bool) -> Desk {
         let heads = self.heads;
         let place = self.place;
         Desk {
             heads,
             place,
             file: self.file,
-            going,
+            going: given,
+            served: given,
+        }
+    }
+
+    // The same store, and no more calls.
+    fn ended(self) -> Desk {
+        let heads = self.heads;
+        let place = self.place;
+        Desk {
+            heads,
+            place,
+            file: self.file,
+            going: false,
+            served: true,
         }
     }
 }
@@ -146,16 +164,28 @@ fn settled(path: &[u8], journal: &[u8], desk: Desk, done: Changed) -> Desk {
         }
     }
     let heads = done.heads;
-    let going = say::answer(answer);
+    let given = say::answer(answer);
+    if 0 <= desk.file {
+        room::tell(path, old.at, new.at);
+    }
     Desk {
         heads,
         place: new,
         file: desk.file,
-        going,
+        going: given,
+        served: given,
     }
 }
 
-// The three reads, and standing. False where the answer could not be given.
+// What can be read: the horizon, the last commit, the known snapshots.
+fn show_known(known: Knowledge) -> bool {
+    let answer = known.answer;
+    let stamps = known.stamps;
+    let n = entries(known.count as usize, &stamps);
+    say::known(answer, known.horizon, known.last, &stamps[..n])
+}
+
+// The three reads, known, and standing. False where the answer could not be given.
 fn show(
     disk: &Disk,
     dated: &Disk,
@@ -221,6 +251,10 @@ fn show(
             );
             say::page(answer, &words)
         }
+        Call::Known => {
+            let known = reads::known(disk, dated, pending, past, snapshots, copies, copied, h);
+            show_known(known)
+        }
         _ => {
             let stood = reads::standing(disk, dated, pending, past, snapshots, copies, copied, h);
             let answer = stood.answer;
@@ -255,16 +289,17 @@ fn renewed(started: Started, file: i32) -> Desk {
     let heads = started.heads;
     let place = started.place;
     let answer = started.answer;
-    let going = say::answer(answer);
+    let given = say::answer(answer);
     Desk {
         heads,
         place,
         file,
-        going,
+        going: given,
+        served: given,
     }
 }
 
-// A line without a call is passed over.
+// The line of this number. One without a call is passed over.
 pub fn served(
     disk: &mut Disk,
     dated: &mut Disk,
@@ -277,20 +312,22 @@ pub fn served(
     path: &[u8],
     desk: Desk,
     line: &[u8],
+    number: u64,
 ) -> Desk {
     let mut firsts = [0u64; 17];
     let mut seconds = [0u64; 17];
     let call = lines::read_line(line, &mut firsts, &mut seconds);
     match call {
         Call::Blank => desk,
-        Call::Help => {
-            let said = help::print();
+        Call::Help(topic) => {
+            let said = help::print(topic);
             desk.after(said)
         }
+        Call::Quit => desk.ended(),
         Call::Wrong(fault, column) => {
             let f = fault;
             let c = column;
-            let said = say::wrong(f, c);
+            let said = say::wrong(f, number, c);
             desk.after(said)
         }
         Call::Fresh => {
@@ -311,6 +348,13 @@ pub fn served(
                 }
                 Renewal::Barred => {
                     let said = say::refused(path, b".old is in the way");
+                    desk.after(said)
+                }
+                Renewal::Linked => {
+                    let said = say::refused(
+                        path,
+                        b" is a link; fresh works under the file's own name",
+                    );
                     desk.after(said)
                 }
                 Renewal::Failed => desk.after(false),
@@ -339,7 +383,7 @@ pub fn served(
                 }
             }
         }
-        Call::Read(_, _) | Call::Clock(_, _) | Call::Now(_) | Call::Standing => {
+        Call::Read(_, _) | Call::Clock(_, _) | Call::Now(_) | Call::Known | Call::Standing => {
             let said = show(
                 disk,
                 dated,

@@ -14,15 +14,18 @@ pub fn buffer() -> [u8; ROOM]
     [0; ROOM]
 }
 
-// Where the input stands: the bytes from start to end are read and not yet served, and no newline is among those before seen. The
-// descriptor -1 has no bytes but these. A line that is too long is passed over to its newline.
+// Where the input stands: the bytes from start to end are read and not yet served, they begin the line of this number, and no
+// newline is among those before seen. The descriptor -1 has no bytes but these. A line that is too long is passed over to its
+// newline. Reading that failed ends the input.
 pub struct Input {
     pub source: i32,
     pub start: usize,
     pub seen: usize,
     pub end: usize,
+    pub line: u64,
     pub passing: bool,
     pub going: bool,
+    pub failed: bool,
 }
 
 // A line's bytes: none where there is no line to serve yet.
@@ -30,6 +33,13 @@ pub struct Taken {
     pub input: Input,
     pub from: usize,
     pub to: usize,
+}
+
+// No input has so many lines.
+const LAST: u64 = 18446744073709551615;
+
+fn next_line(number: u64) -> u64 {
+    if number < LAST { number + 1 } else { number }
 }
 
 // The first newline among these bytes, or their end.
@@ -54,19 +64,43 @@ fn shown(line: &[u8]) -> bool {
     say::text(b"\n")
 }
 
+// A mark of UTF-8 at the start of a file is no part of its first line.
+fn mark(bytes: &[u8], number: u64) -> usize
+    ensures { λ r. ⌜ r ≤ length (now (bytes .entry)) ⌝ }
+{
+    if number != 1 {
+        return 0;
+    }
+    if bytes.len() < 3 {
+        return 0;
+    }
+    if bytes[0] != 239 {
+        return 0;
+    }
+    if bytes[1] != 187 {
+        return 0;
+    }
+    if bytes[2] != 191 {
+        return 0;
+    }
+    3
+}
+
 // The line that ends at a newline.
 fn line_to(buffer: &[u8], input: Input, at: usize) -> Taken
     requires { ⌜ Within input (length (now buffer)) × (input .start ≤ at) × (at < input .end) ⌝ }
     ensures { λ r. ⌜ Lies r (length (now (buffer .entry))) ⌝ }
 {
-    let from = input.start;
+    let start = input.start;
     let next = Input {
         source: input.source,
         start: at + 1,
         seen: at + 1,
         end: input.end,
+        line: next_line(input.line),
         passing: false,
         going: true,
+        failed: false,
     };
     if input.passing {
         return Taken {
@@ -76,8 +110,9 @@ fn line_to(buffer: &[u8], input: Input, at: usize) -> Taken
         };
     }
     if input.source < 0 {
-        shown(&buffer[from..at]);
+        shown(&buffer[start..at]);
     }
+    let from = start + mark(&buffer[start..at], input.line);
     Taken {
         input: next,
         from,
@@ -105,8 +140,10 @@ fn begun(input: Input, kept: usize, passing: bool) -> Input
         start: 0,
         seen: kept,
         end: kept,
+        line: input.line,
         passing,
         going: true,
+        failed: false,
     }
 }
 
@@ -123,24 +160,26 @@ fn moved(buffer: &mut [u8], input: Input) -> Input
     if kept < buffer.len() {
         return begun(input, kept, false);
     }
-    say::text(b"? the line is longer than 1048576 bytes\n");
+    say::wrong_line(input.line, b" is longer than 1048576 bytes\n");
     begun(input, 0, true)
 }
 
 // A line that was begun and has no end may be half of a call.
-fn over(input: Input) -> Input
+fn over(input: Input, failed: bool) -> Input
     ensures { λ r. ⌜ (r .start ≡ 0) × (r .seen ≡ 0) × (r .end ≡ 0) ⌝ }
 {
     if 0 < input.end && !input.passing {
-        say::text(b"? the line has no end\n");
+        say::wrong_line(input.line, b" has no end\n");
     }
     Input {
         source: input.source,
         start: 0,
         seen: 0,
         end: 0,
+        line: input.line,
         passing: false,
         going: false,
+        failed,
     }
 }
 
@@ -156,7 +195,7 @@ fn read(buffer: &mut [u8], input: Input) -> Input
     ensures { λ r. ⌜ Within r (length (now (buffer .exit))) ⌝ }
 {
     if input.source < 0 {
-        return over(input);
+        return over(input, false);
     }
     prompt(input);
     let end = input.end;
@@ -166,9 +205,10 @@ fn read(buffer: &mut [u8], input: Input) -> Input
     }
     if got < 0 {
         os::fail(b"standard input");
+        return over(input, true);
     }
-    if got <= 0 {
-        return over(input);
+    if got == 0 {
+        return over(input, false);
     }
     let n = io::count(got, &buffer[end..]);
     Input {
@@ -176,8 +216,10 @@ fn read(buffer: &mut [u8], input: Input) -> Input
         start: 0,
         seen: end,
         end: end + n,
+        line: input.line,
         passing: input.passing,
         going: true,
+        failed: false,
     }
 }
 

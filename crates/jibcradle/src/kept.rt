@@ -7,9 +7,12 @@ use crate::input::Input;
 use crate::say;
 use files::file;
 use files::file::Whole;
+use files::fit;
 use files::lock;
 use files::paths;
+use files::room;
 use journal::place::Place;
+use model::Answer;
 use restart::Started;
 use tables::Copied;
 use tables::CopyTable;
@@ -39,12 +42,20 @@ fn closed() -> Desk {
         place: Place { at: 0 },
         file: -1,
         going: false,
+        served: false,
     }
 }
 
-// The store of a journal that was read: what lies behind its last whole record is cut off the file, since a shorter record written
-// over it would leave a rest; and the file is synced, since a record from before a kill may be in it and not yet there for good.
-fn begun(path: &[u8], file: i32, whole: Whole, read: usize, started: Started) -> Desk {
+// A journal that is refused stays as it is.
+fn refused(path: &[u8], answer: Answer) -> Desk {
+    say::opening(b"refused ", path, answer);
+    closed()
+}
+
+// The store of a journal that was read: what lies behind its last whole record is kept elsewhere and cut off the file, since a
+// shorter record written over it would leave a rest; and the file is synced, since a record from before a kill may be in it and not
+// yet there for good.
+fn begun(path: &[u8], file: i32, whole: Whole, read: &[u8], started: Started) -> Desk {
     if let Whole::Failed = whole {
         return closed();
     }
@@ -56,19 +67,21 @@ fn begun(path: &[u8], file: i32, whole: Whole, read: usize, started: Started) ->
         place,
         file,
         going: true,
+        served: true,
     };
     if file < 0 {
         return desk;
     }
-    if !say::opened(path, answer) {
-        return closed();
-    }
     if answer.code() != 0 {
+        return refused(path, answer);
+    }
+    if !file::is_settled(path, file, read, place.at) {
         return closed();
     }
-    if !file::is_settled(path, file, place.at, read) {
+    if !say::opening(b"opened ", path, answer) {
         return closed();
     }
+    room::tell(path, 0, place.at);
     desk
 }
 
@@ -84,13 +97,13 @@ fn length_of(whole: Whole, journal: &[u8; 65536]) -> usize
 }
 
 // The bytes that a journal may have. The one more that is read shows a file that is longer.
-fn room(journal: &[u8; 65536]) -> usize
+fn most(journal: &[u8; 65536]) -> usize
     ensures { λ r. ⌜ Counts r (now (journal .entry)) ⌝ }
 {
-    paths::within(65535, &journal[..])
+    paths::within(room::MOST, &journal[..])
 }
 
-// Serves each line of the input.
+// Serves each line of the input. False where something failed.
 fn run(
     disk: &mut Disk,
     dated: &mut Disk,
@@ -104,7 +117,7 @@ fn run(
     buffer: &mut [u8],
     begun: Desk,
     first: Input,
-)
+) -> bool
     requires { ⌜ Within first (length (now buffer)) ⌝ }
 {
     let mut desk = begun;
@@ -113,11 +126,12 @@ fn run(
     while 0 < turns {
         turns -= 1;
         if !desk.going {
-            return;
+            return desk.served;
         }
         if !input.going {
-            return;
+            return !input.failed;
         }
+        let number = input.line;
         let taken = input::take(buffer, input);
         input = taken.input;
         let from = taken.from;
@@ -134,12 +148,14 @@ fn run(
             path,
             desk,
             &buffer[from..to],
+            number,
         );
     }
+    true
 }
 
 // A store from its start to its end. The input is the descriptor's, or the night's where that is -1.
-fn serve(path: &[u8], file: i32, source: i32) {
+fn serve(path: &[u8], file: i32, source: i32) -> bool {
     let mut disk = [0u64; 512];
     let mut dated = [0u64; 512];
     let mut pending = [[0u64; 4]; 128];
@@ -160,10 +176,10 @@ fn serve(path: &[u8], file: i32, source: i32) {
         &mut copied,
         &journal[..n],
     );
-    let desk = begun(path, file, whole, n, started);
+    let desk = begun(path, file, whole, &journal[..n], started);
     let mut buffer = input::buffer();
     let input = laid(&mut buffer, source);
-    let most = room(&journal);
+    let n = most(&journal);
     run(
         &mut disk,
         &mut dated,
@@ -172,12 +188,12 @@ fn serve(path: &[u8], file: i32, source: i32) {
         &mut snapshots,
         &mut copies,
         &mut copied,
-        &mut journal[..most],
+        &mut journal[..n],
         path,
         &mut buffer,
         desk,
         input,
-    );
+    )
 }
 
 // The input at its start. The night's lines are in the buffer already.
@@ -193,30 +209,41 @@ fn laid(buffer: &mut [u8], source: i32) -> Input
         start: 0,
         seen: 0,
         end,
+        line: 1,
         passing: false,
         going: true,
+        failed: false,
     }
 }
 
-pub fn in_memory() {
-    serve(b"", -1, libc::STDIN_FILENO);
+pub fn in_memory() -> bool {
+    serve(b"", -1, libc::STDIN_FILENO)
 }
 
-pub fn night() {
-    serve(b"", -1, -1);
+pub fn night() -> bool {
+    serve(b"", -1, -1)
 }
 
-// Nothing is read before the lock is ours.
-pub fn in_file(path: &[u8]) {
+fn is_served(path: &[u8]) -> bool {
+    let file = file::opened(path);
+    if file < 0 {
+        return false;
+    }
+    serve(path, file, libc::STDIN_FILENO)
+}
+
+// Nothing is read before the lock is ours. False where something failed, after a word on standard error.
+pub fn in_file(path: &[u8]) -> bool {
     if !say::are_open() {
-        return;
+        return false;
+    }
+    if !fit::is_fit(path) {
+        return false;
     }
     if !lock::is_taken(path) {
-        return;
+        return false;
     }
-    let file = file::opened(path);
-    if 0 <= file {
-        serve(path, file, libc::STDIN_FILENO);
-    }
+    let served = is_served(path);
     lock::release(path);
+    served
 }

@@ -6,6 +6,7 @@ use mathlib.Core.List.{List, [], _∷_}
 use Rattle.lines.specs.Names.{spelt}
 use Rattle.lines.specs.Lines.{parsed}
 use Rattle.lines.specs.declared.Fault.the-variants.{Unknown, Missing, Digit, Large, Equals, Extra}
+use Rattle.lines.specs.declared.Topic.the-variants as topic
 use Rattle.lines.specs.declared.Call.{Call}
 use Rattle.lines.specs.declared.Call.the-variants as call
 
@@ -28,9 +29,14 @@ unfolding parsed
 a-gossip = (refl, (refl, refl))
 
 others : Says "flush 0031" (call.Flush 31) × Says "read 4 5" (call.Read 4 5) × Says "clock 4 5" (call.Clock 4 5) × Says "now 1" (call.Now 1)
-    × Says "\tstanding \r" call.Standing × Says "fresh" call.Fresh × Says "help#" call.Help × Says "cut 0" (call.Cut 0)
+    × Says "\tstanding \r" call.Standing × Says "fresh" call.Fresh × Says "known" call.Known × Says "quit" call.Quit × Says "exit" call.Quit × Says "cut 0" (call.Cut 0)
 unfolding parsed
-others = (refl, refl, refl, refl, refl, refl, refl, refl)
+others = (refl, refl, refl, refl, refl, refl, refl, refl, refl, refl)
+
+help : Says "help#" (call.Help topic.Calls) × Says "help codes" (call.Help topic.Codes) × Says "help standing" (call.Help topic.Standing)
+    × Says "help x codes" (call.Wrong Unknown 6) × Says "help codes x" (call.Wrong Extra 12)
+unfolding parsed
+help = (refl, refl, refl, refl, refl)
 
 -- 18 stamps: 17 are kept, and the words behind them are judged all the same
 long-lists : Says "gossip 0 9 1 1 1 1 1 1 1 1 1 1 1 1 1 1 1 1 1 1" (call.Gossip 0 9 17) × Says "gossip 0 9 1 1 1 1 1 1 1 1 1 1 1 1 1 1 1 1 1 1 x" (call.Wrong Digit 48)

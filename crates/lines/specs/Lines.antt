@@ -3,11 +3,13 @@ use Prim.Native.Nat.{ℕ, _+_}
 use mathlib.Core.Path.{_≡_}
 use mathlib.Core.List.{List, [], _∷_, map}
 use lib.ListN.{length, take}
+use Rattle.model.specs.Lists.{pick}
 use Rattle.lines.specs.Words.{Word, words, uncommented}
 use Rattle.lines.specs.Numbers.{numberAt, paired, itemAt}
-use Rattle.lines.specs.Names.{nameOf}
+use Rattle.lines.specs.Names.{spelt, sameB, nameOf}
 use Rattle.lines.specs.declared.Fault.{Fault}
 use Rattle.lines.specs.declared.Fault.the-variants.{Unknown, Missing, Extra}
+use Rattle.lines.specs.declared.Topic.the-variants as topic
 use Rattle.lines.specs.declared.Call.{Call}
 use Rattle.lines.specs.declared.Call.the-variants as call
 use Rattle.lines.specs.declared.numbers.Number.{Number}
@@ -89,7 +91,8 @@ ofList f (listed.Count n) = f n
 abbrev pub bareCall : Bare → Call
 bareCall bare.Standing = call.Standing
 bareCall bare.Fresh = call.Fresh
-bareCall bare.Help = call.Help
+bareCall bare.Known = call.Known
+bareCall bare.Quit = call.Quit
 
 abbrev pub singleCall : Single → ℕ → Call
 singleCall single.Flush n = call.Flush n
@@ -105,6 +108,14 @@ withOne s end ws = ofOne (singleCall s) (firstNumber end ws) (tail ws)
 
 abbrev pub withTwo : Double → ℕ → List Word → Call
 withTwo d end ws = ofTwo (doubleCall d) (firstTwo end ws) (tail (tail ws))
+
+-- help on the calls, or on what the next word names
+abbrev pub helped : List Word → Call
+helped [] = call.Help topic.Calls
+helped (w ∷ ws) =
+    pick (sameB (w .bytes) (spelt "codes")) (closed (call.Help topic.Codes) ws)
+    (pick (sameB (w .bytes) (spelt "standing")) (closed (call.Help topic.Standing) ws)
+    (call.Wrong Unknown (w .column)))
 
 -- a call, with the numbers of its list: objects and values of a commit, stamps of a gossip
 pub record Parsed : Type 0 where
@@ -138,6 +149,7 @@ called name.Gossip column end ws = withStamps end ws
 called (name.Bare b) column end ws = plain (closed (bareCall b) ws)
 called (name.Single s) column end ws = plain (withOne s end ws)
 called (name.Double d) column end ws = plain (withTwo d end ws)
+called name.Help column end ws = plain (helped ws)
 called name.Unknown column end ws = plain (call.Wrong Unknown column)
 
 -- the call of a line's words, of its text, and of the whole line

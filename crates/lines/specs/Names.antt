@@ -23,19 +23,25 @@ sameB [] (y ∷ ys) = false
 sameB (x ∷ xs) [] = false
 sameB (x ∷ xs) (y ∷ ys) = both (eqb x y) (sameB xs ys)
 
--- a change, a read, any other
+-- a change, a read, a call of no number, any other
 abbrev pub otherName : List ℕ → Name
 otherName w =
+    pick (sameB w (spelt "help")) name.Help
+    (pick (sameB w (spelt "cut")) (name.Single single.Cut) name.Unknown)
+
+abbrev pub bareName : List ℕ → Name
+bareName w =
     pick (sameB w (spelt "standing")) (name.Bare bare.Standing)
     (pick (sameB w (spelt "fresh")) (name.Bare bare.Fresh)
-    (pick (sameB w (spelt "help")) (name.Bare bare.Help)
-    (pick (sameB w (spelt "cut")) (name.Single single.Cut) name.Unknown)))
+    (pick (sameB w (spelt "known")) (name.Bare bare.Known)
+    (pick (sameB w (spelt "quit")) (name.Bare bare.Quit)
+    (pick (sameB w (spelt "exit")) (name.Bare bare.Quit) (otherName w)))))
 
 abbrev pub readName : List ℕ → Name
 readName w =
     pick (sameB w (spelt "read")) (name.Double double.Read)
     (pick (sameB w (spelt "clock")) (name.Double double.Clock)
-    (pick (sameB w (spelt "now")) (name.Single single.Now) (otherName w)))
+    (pick (sameB w (spelt "now")) (name.Single single.Now) (bareName w)))
 
 abbrev pub nameOf : List ℕ → Name
 nameOf w =

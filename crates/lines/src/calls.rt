@@ -1,8 +1,10 @@
 // A call by its name, and what its words say.
 use crate::Call;
 use crate::Fault;
+use crate::Topic;
 use crate::lists;
 use crate::lists::Listed;
+use crate::names;
 use crate::names::Bare;
 use crate::names::Double;
 use crate::names::Name;
@@ -16,7 +18,7 @@ ghost use mathlib.Core.Path.{_≡_};
 ghost use Prim.Native.Nat.{_≤_, _+_};
 ghost use lib.ListN.{length};
 ghost use Rattle.lines.specs.Words.{wordsFrom};
-ghost use Rattle.lines.specs.Lines.{closed, bareCall, singleCall, doubleCall, withOne, withTwo, withWrites, withStamps, called, Reading};
+ghost use Rattle.lines.specs.Lines.{closed, bareCall, singleCall, doubleCall, withOne, withTwo, helped, withWrites, withStamps, called, Reading};
 
 // The call, where no word is left behind it.
 fn close(text: &[u8], at: usize, call: Call) -> Call
@@ -38,7 +40,8 @@ fn bare_call(which: Bare) -> Call
     match which {
         Bare::Standing => Call::Standing,
         Bare::Fresh => Call::Fresh,
-        Bare::Help => Call::Help,
+        Bare::Known => Call::Known,
+        Bare::Quit => Call::Quit,
     }
 }
 
@@ -101,6 +104,26 @@ fn read_double(text: &[u8], at: usize, which: Double) -> Call
     }
 }
 
+fn read_help(text: &[u8], at: usize) -> Call
+    requires { ⌜ at ≤ length (now text) ⌝ }
+    ensures { λ r. ⌜ r ≡ helped (wordsFrom (now (text .entry)) at) ⌝ }
+{
+    let span = words::next_word(text, at);
+    let from = span.from;
+    let to = span.to;
+    if from == to {
+        return Call::Help(Topic::Calls);
+    }
+    let word = &text[from..to];
+    if names::same(word, b"codes") {
+        return close(text, to, Call::Help(Topic::Codes));
+    }
+    if names::same(word, b"standing") {
+        return close(text, to, Call::Help(Topic::Standing));
+    }
+    Call::Wrong(Fault::Unknown, from + 1)
+}
+
 fn read_commit(text: &[u8], at: usize, firsts: &mut [u64; 17], seconds: &mut [u64; 17]) -> Call
     requires { ⌜ (at ≤ length (now text)) × (length (now firsts) ≡ 17) × (length (now seconds) ≡ 17) ⌝ }
     ensures { λ r. ⌜ Reading (withWrites (length (now (text .entry)) + 1) (wordsFrom (now (text .entry)) at)) r (now (firsts .exit)) (now (seconds .exit)) ⌝ }
@@ -157,6 +180,7 @@ pub fn read_call(
         Name::Bare(which) => read_bare(text, at, which),
         Name::Single(which) => read_single(text, at, which),
         Name::Double(which) => read_double(text, at, which),
+        Name::Help => read_help(text, at),
         Name::Unknown => Call::Wrong(Fault::Unknown, column),
     }
 }

@@ -22,6 +22,13 @@ pub enum Fault {
     Extra,
 }
 
+// What help is about: the calls, the codes of the answers, the figures of standing.
+pub enum Topic {
+    Calls,
+    Codes,
+    Standing,
+}
+
 // A call with its numbers. Commit has its stamp and how many writes were kept, Gossip its two stamps and how many snapshots were kept.
 // A line that is no call is Wrong, with its first fault and the column of that, counted from 1.
 pub enum Call {
@@ -34,7 +41,9 @@ pub enum Call {
     Now(u64),
     Standing,
     Fresh,
-    Help,
+    Known,
+    Quit,
+    Help(Topic),
     Cut(u64),
     Wrong(Fault, usize),
 }

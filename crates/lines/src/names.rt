@@ -1,12 +1,13 @@
 // The names of the calls.
 ghost use mathlib.Core.Path.{_≡_};
-ghost use Rattle.lines.specs.Names.{sameB, nameOf, readName, otherName};
+ghost use Rattle.lines.specs.Names.{sameB, nameOf, readName, bareName, otherName};
 
 // The calls of no number.
 pub enum Bare {
     Standing,
     Fresh,
-    Help,
+    Known,
+    Quit,
 }
 
 // The calls of one number.
@@ -28,10 +29,11 @@ pub enum Name {
     Bare(Bare),
     Single(Single),
     Double(Double),
+    Help,
     Unknown,
 }
 
-fn same(word: &[u8], name: &[u8]) -> bool
+pub fn same(word: &[u8], name: &[u8]) -> bool
     ensures { λ r. ⌜ r ≡ sameB (now (word .entry)) (now (name .entry)) ⌝ }
 {
     if word.len() != name.len() {
@@ -50,19 +52,34 @@ fn same(word: &[u8], name: &[u8]) -> bool
 fn other_name(word: &[u8]) -> Name
     ensures { λ r. ⌜ r ≡ otherName (now (word .entry)) ⌝ }
 {
+    if same(word, b"help") {
+        return Name::Help;
+    }
+    if same(word, b"cut") {
+        return Name::Single(Single::Cut);
+    }
+    Name::Unknown
+}
+
+fn bare_name(word: &[u8]) -> Name
+    ensures { λ r. ⌜ r ≡ bareName (now (word .entry)) ⌝ }
+{
     if same(word, b"standing") {
         return Name::Bare(Bare::Standing);
     }
     if same(word, b"fresh") {
         return Name::Bare(Bare::Fresh);
     }
-    if same(word, b"help") {
-        return Name::Bare(Bare::Help);
+    if same(word, b"known") {
+        return Name::Bare(Bare::Known);
     }
-    if same(word, b"cut") {
-        return Name::Single(Single::Cut);
+    if same(word, b"quit") {
+        return Name::Bare(Bare::Quit);
     }
-    Name::Unknown
+    if same(word, b"exit") {
+        return Name::Bare(Bare::Quit);
+    }
+    other_name(word)
 }
 
 fn read_name(word: &[u8]) -> Name
@@ -77,7 +94,7 @@ fn read_name(word: &[u8]) -> Name
     if same(word, b"now") {
         return Name::Single(Single::Now);
     }
-    other_name(word)
+    bare_name(word)
 }
 
 pub fn name_of(word: &[u8]) -> Name

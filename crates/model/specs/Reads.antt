@@ -81,3 +81,16 @@ standing st =
         lag = lagOf st;
       };
     })
+
+-- ---- Known: the horizon, the last commit and all known snapshots; 2 where damaged
+pub record Knowledge : Type 0 where
+  pub answer : Answer
+  pub horizon : ℕ
+  pub last : ℕ
+  pub snapshots : List ℕ
+
+unfoldable pub known : Store → Knowledge
+known st =
+    pick (damaged st)
+    (record { answer = Damaged; horizon = 0; last = 0; snapshots = [] })
+    (record { answer = Done 0; horizon = st .horizon; last = st .last; snapshots = st .snapshots })

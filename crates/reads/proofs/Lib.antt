@@ -3,3 +3,4 @@ pub mod Served
 pub mod Answers
 pub mod Ticks
 pub mod Figured
+pub mod Listed

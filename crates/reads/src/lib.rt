@@ -1,4 +1,4 @@
-// The reads of the store, and standing. None requires anything: each refuses what it can't answer.
+// The reads of the store, standing and known. None requires anything: each refuses what it can't answer.
 use model::Answer;
 use model::Figures;
 use tables::Copied;
@@ -26,11 +26,21 @@ ghost use Rattle.tables.specs.Lookups.{Indexed};
 ghost use Rattle.tables.specs.Contents.{contents, Laid};
 ghost use Rattle.views.specs.Views.{Lookable};
 ghost use Rattle.reads.specs.Read.{Read};
+ghost use Rattle.reads.specs.Knows.{padded, Knows};
 
 // Standing's answer, and its five figures.
 pub struct Stood {
     pub answer: Answer,
     pub figures: Figures,
+}
+
+// Known's answer, the horizon, the last commit, and the known snapshots: how many, and each, with zeros behind them.
+pub struct Knowledge {
+    pub answer: Answer,
+    pub horizon: u64,
+    pub last: u64,
+    pub count: u64,
+    pub stamps: [u64; 64],
 }
 
 // The page as of s: the serving copy's words, else what the tables show. As in views::look_at, any list may stand for the stamps.
@@ -280,5 +290,52 @@ pub fn standing(
     Stood {
         answer: Answer::Done(0),
         figures,
+    }
+}
+
+// The first n snapshots, and zeros behind them.
+fn first_known(snapshots: &Snapshots, n: usize) -> [u64; 64]
+    requires { ⌜ (n ≤ 64) × (length (now snapshots) ≡ 64) ⌝ }
+    ensures { λ r. ⌜ r ≡ padded (take n (now (snapshots .entry))) ⌝ }
+{
+    let mut stamps = [0u64; 64];
+    let mut i: usize = 0;
+    while i < n {
+        stamps[i] = snapshots[i];
+        i += 1;
+    }
+    stamps
+}
+
+// The horizon, the last commit, and every known snapshot.
+pub fn known(
+    disk: &Disk,
+    dated: &Disk,
+    pending: &PendingTable,
+    past: &PastTable,
+    snapshots: &Snapshots,
+    copies: &CopyTable,
+    copied: &Copied,
+    h: Heads,
+) -> Knowledge
+    ensures { λ r. ⌜ Knows (model.known (contents (now (disk .entry)) (now (dated .entry)) (now (pending .entry)) (now (past .entry)) (now (snapshots .entry)) (now (copies .entry)) (now (copied .entry)) h)) r ⌝ }
+{
+    tables::laid(*disk, *dated, *pending, *past, *snapshots, *copies, *copied);
+    if damage::damaged(pending, past, snapshots, copies, h) {
+        return Knowledge {
+            answer: Answer::Damaged,
+            horizon: 0,
+            last: 0,
+            count: 0,
+            stamps: [0u64; 64],
+        };
+    }
+    let stamps = first_known(snapshots, h.snapshots);
+    Knowledge {
+        answer: Answer::Done(0),
+        horizon: h.horizon,
+        last: h.last,
+        count: h.snapshots as u64,
+        stamps,
     }
 }

@@ -11,11 +11,13 @@ use Rattle.model.specs.Calls.{Outcome}
 use Rattle.model.specs.Reads as reads
 use Rattle.model.specs.Restart.{Restarted}
 use Rattle.changes.specs.Left.{Left}
+use Rattle.reads.specs.declared.Knowledge as below
 use Rattle.reads.specs.Read.{Read}
+use Rattle.reads.specs.Knows.{Knows}
 use Rattle.restart.specs.Promises.{Rebuilt}
 use Rattle.repository.specs.declared.Moved.{Moved}
 use Rattle.repository.specs.declared.Reply.{Reply}
-use Rattle.repository.specs.Faces.{Told, Changed, Begun, Shown, Stood}
+use Rattle.repository.specs.Faces.{Told, Changed, Begun, Shown, Stood, Knew}
 
 module _ {answer : Answer} {place : ℕ} {r : Moved} {store : Store} where
   pub changed : {x : Outcome} {journal : List ℕ} → Left x answer store journal place → Told answer place r → Changed x r store journal
@@ -50,4 +52,15 @@ stood s l c n g = record {
   known = ap (λ (f : Figures). f .snapshots) (l .1);
   copied = ap (λ (f : Figures). f .copies) (l .1);
   lagging = g ∙ ap (λ (f : Figures). f .lag) (l .1);
+}
+
+pub knew : {x : reads.Knowledge} {k : below.Knowledge} {code number : ℕ} → Knows x k → code ≡ codeOf (k .answer) → number ≡ numberOf (k .answer)
+    → Knew x (record { code = code; number = number; horizon = k .horizon; last = k .last; count = k .count; stamps = k .stamps })
+knew l c n = record {
+  coded = c ∙ ap codeOf (l .answered);
+  numbered = n ∙ ap numberOf (l .answered);
+  horizon-is = l .horizon-is;
+  last-is = l .last-is;
+  counted = l .counted;
+  listed = l .listed;
 }

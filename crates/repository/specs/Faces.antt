@@ -2,6 +2,7 @@
 use Prim.Native.Nat.{ℕ}
 use mathlib.Core.Path.{_≡_}
 use mathlib.Core.List.{List}
+use lib.ListN.{length}
 use Rattle.model.specs.declared.Answer.{Answer}
 use Rattle.model.specs.Answers.{codeOf, numberOf}
 use Rattle.model.specs.Store as model
@@ -9,10 +10,12 @@ use Rattle.model.specs.Calls.{Outcome}
 use Rattle.model.specs.Reads as reads
 use Rattle.model.specs.Restart as starts
 use Rattle.tables.specs.Contents.{contents}
+use Rattle.reads.specs.Knows.{padded}
 use Rattle.repository.specs.declared.Store.{Store}
 use Rattle.repository.specs.declared.Moved.{Moved}
 use Rattle.repository.specs.declared.Reply.{Reply}
 use Rattle.repository.specs.declared.Report.{Report}
+use Rattle.repository.specs.declared.Knowledge.{Knowledge}
 
 -- the store that the struct holds
 abbrev pub stored : Store → model.Store
@@ -54,3 +57,12 @@ pub record Stood (x : reads.Stood) (r : Report) : Type 0 where
   pub known : r .snapshots ≡ x .figures .snapshots
   pub copied : r .copies ≡ x .figures .copies
   pub lagging : r .lag ≡ x .figures .lag
+
+-- known: code, number, the horizon, the last commit, the count of snapshots and the whole array of their stamps
+pub record Knew (x : reads.Knowledge) (r : Knowledge) : Type 0 where
+  pub coded : r .code ≡ codeOf (x .answer)
+  pub numbered : r .number ≡ numberOf (x .answer)
+  pub horizon-is : r .horizon ≡ x .horizon
+  pub last-is : r .last ≡ x .last
+  pub counted : r .count ≡ length (x .snapshots)
+  pub listed : r .stamps ≡ padded (x .snapshots)

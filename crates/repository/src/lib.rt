@@ -50,3 +50,14 @@ pub struct Report {
     pub copies: u64,
     pub lag: i64,
 }
+
+// What known answers: the paper's code and number, the horizon, the last commit, and the known snapshots: how many, and each, with zeros behind them.
+#[repr(C)]
+pub struct Knowledge {
+    pub code: u64,
+    pub number: u64,
+    pub horizon: u64,
+    pub last: u64,
+    pub count: u64,
+    pub stamps: [u64; 64],
+}

@@ -1,9 +1,10 @@
 // The faces that only read: the tables are lent out of the struct, and the struct stays as it is.
+use crate::Knowledge;
 use crate::Reply;
 use crate::Report;
 use crate::Store;
 ghost use Rattle.model.specs.Reads as reads;
-ghost use Rattle.repository.specs.Faces.{stored, Shown, Stood};
+ghost use Rattle.repository.specs.Faces.{stored, Shown, Stood, Knew};
 
 // The page as of the largest known snapshot at or before a time.
 #[no_mangle]
@@ -80,6 +81,23 @@ pub extern "C" fn jibcradle_standing(store: &Store) -> Report
     ensures { λ r. ⌜ Stood (reads.standing (stored (now (store .entry)))) r ⌝ }
 {
     crate::steps::standing(
+        &store.disk,
+        &store.dated,
+        &store.pending,
+        &store.past,
+        &store.snapshots,
+        &store.copies,
+        &store.copied,
+        store.heads,
+    )
+}
+
+// The horizon, the last commit, and every known snapshot.
+#[no_mangle]
+pub extern "C" fn jibcradle_known(store: &Store) -> Knowledge
+    ensures { λ r. ⌜ Knew (reads.known (stored (now (store .entry)))) r ⌝ }
+{
+    crate::steps::known(
         &store.disk,
         &store.dated,
         &store.pending,

@@ -1,4 +1,5 @@
 // Each call of the face on the tables one by one: the answer as the paper's code and number.
+use crate::Knowledge;
 use crate::Moved;
 use crate::Reply;
 use crate::Report;
@@ -17,7 +18,7 @@ ghost use Rattle.model.specs.Calls.{commitCall, gossipCall, flushCall};
 ghost use Rattle.model.specs.Reads as reads;
 ghost use Rattle.model.specs.Restart as starts;
 ghost use Rattle.tables.specs.Contents.{contents};
-ghost use Rattle.repository.specs.Faces.{Told, Changed, Begun, Shown, Stood};
+ghost use Rattle.repository.specs.Faces.{Told, Changed, Begun, Shown, Stood, Knew};
 
 // What a change or a start hands back: the heads, and what the caller is told.
 pub struct Step {
@@ -319,5 +320,30 @@ pub fn standing(
         snapshots: figures.snapshots,
         copies: figures.copies,
         lag: figures.lag,
+    }
+}
+
+pub fn known(
+    disk: &Disk,
+    dated: &Disk,
+    pending: &PendingTable,
+    past: &PastTable,
+    snapshots: &Snapshots,
+    copies: &CopyTable,
+    copied: &Copied,
+    heads: Heads,
+) -> Knowledge
+    ensures { λ r. ⌜ Knew (reads.known (contents (now (disk .entry)) (now (dated .entry)) (now (pending .entry)) (now (past .entry)) (now (snapshots .entry)) (now (copies .entry)) (now (copied .entry)) heads)) r ⌝ }
+{
+    let k = reads::known(disk, dated, pending, past, snapshots, copies, copied, heads);
+    let answer = k.answer;
+    let stamps = k.stamps;
+    Knowledge {
+        code: answer.code(),
+        number: answer.number(),
+        horizon: k.horizon,
+        last: k.last,
+        count: k.count,
+        stamps,
     }
 }

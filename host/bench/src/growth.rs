@@ -52,9 +52,11 @@ fn pending(budget: Duration) {
     for pending in [0, 32, 64, 96, 128] {
         let state = Rc::new(build(Fill { pending, past: 0, snapshots: 0, copies: 0 }));
         let object = entries(pending).last().copied().unwrap_or(0);
-        let name = format!("{pending} pending entries");
-        commits.push((name.clone(), timed(&state, commit(&state, object), budget)));
-        reads.push((name, timed(&state, Call::CurrentRead { page: 0 }, budget)));
+        let rows = format!("{pending} pending entries");
+        let times = timed(&state, commit(&state, object), budget);
+        commits.push((format!("commit, {rows}"), times));
+        let times = timed(&state, Call::CurrentRead { page: 0 }, budget);
+        reads.push((format!("current read, {rows}"), times));
     }
     print("commit of the last entry's object", "ns", &commits);
     print("current read of page 0", "ns", &reads);
@@ -65,10 +67,12 @@ fn past(budget: Duration) {
     let mut reads = Vec::new();
     for past in [0, 64, 128, 192, 256] {
         let state = Rc::new(build(Fill { pending: 32, past, snapshots: 16, copies: 0 }));
-        let name = format!("{past} past values");
-        commits.push((name.clone(), timed(&state, commit(&state, 500), budget)));
+        let rows = format!("{past} past values");
+        let times = timed(&state, commit(&state, 500), budget);
+        commits.push((format!("commit, {rows}"), times));
         let time = state.store.horizon;
-        reads.push((name, timed(&state, Call::SnapshotRead { time, page: 4 }, budget)));
+        let times = timed(&state, Call::SnapshotRead { time, page: 4 }, budget);
+        reads.push((format!("snapshot read, {rows}"), times));
     }
     print("commit of a new object", "ns", &commits);
     print("snapshot read of page 4", "ns", &reads);

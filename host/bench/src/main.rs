@@ -67,6 +67,7 @@ fn main() {
         return count::child();
     }
     let rows = rows::rows();
+    rows::expect_distinct(&rows);
     let only_counts = words.iter().any(|word| word == "--counts");
     let quick = only_counts || words.iter().any(|word| word == "--quick");
     let kept = words.iter().position(|word| word == "--keep").and_then(|at| words.get(at + 1));

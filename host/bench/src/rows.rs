@@ -3,6 +3,7 @@
 use crate::sides::{ours_from, Call, Lent, Ours, Side, Theirs};
 use crate::states::{build, entries, strangers, Fill, State};
 use crate::workload;
+use std::collections::HashSet;
 use std::rc::Rc;
 
 /// One row of the table.
@@ -89,6 +90,10 @@ fn message(state: &State, curr: u64, count: u64) -> Call {
     Call::Gossip { prev, curr, stamps }
 }
 
+/// Where a message ends, as its row says it: behind the horizon or behind the last commit.
+const JUST_PAST: &str = "just past H";
+const FAR_PAST: &str = "past L";
+
 /// Messages. One that ends just behind the horizon drops nothing, one that ends behind the last
 /// commit drops the past values that no snapshot wants. With few entries that is most of them.
 fn gossips(rows: &mut Vec<Row>) {
@@ -96,8 +101,8 @@ fn gossips(rows: &mut Vec<Row>) {
     for (fill, rows_wanted) in [("empty", EMPTY), ("half", HALF), ("full", brim)] {
         let state = Rc::new(build(rows_wanted));
         let mut on = On { rows, fill, state: state.clone() };
-        let near = state.store.horizon + 100;
-        let far = state.store.last.max(near) + 100;
+        let near = (JUST_PAST, state.store.horizon + 100);
+        let far = (FAR_PAST, state.store.last.max(near.1) + 100);
         let ends = if rows_wanted.past == 0 { vec![near] } else { vec![near, far] };
         for (end, count) in ends.into_iter().flat_map(|end| [(end, 0), (end, 16)]) {
             on.message(end, count);
@@ -106,20 +111,20 @@ fn gossips(rows: &mut Vec<Row>) {
         on.add("gossip, nothing new", 1, Call::Gossip { prev, curr, stamps: vec![] });
     }
     let state = Rc::new(build(Fill { pending: 32, ..brim }));
-    let far = state.store.last + 100;
+    let far = (FAR_PAST, state.store.last + 100);
     On { rows, fill: "full", state }.message(far, 0);
 }
 
 impl On<'_> {
-    /// A message up to a stamp; the row's name says how many past values it drops.
-    fn message(&mut self, curr: u64, count: u64) {
+    /// A message up to a stamp; the row's name says where that is, and how many past values it drops.
+    fn message(&mut self, (end, curr): (&str, u64), count: u64) {
         let call = message(&self.state, curr, count);
         let mut after = self.state.store.clone();
         if let Call::Gossip { prev, curr, stamps } = &call {
             after.gossip(&mut vec![0; 1000], 0, *prev, *curr, stamps);
         }
         let dropped = self.state.store.past_count - after.past_count;
-        self.add(format!("gossip {count} stamps, drops {dropped}"), 0, call);
+        self.add(format!("gossip {count} stamps {end}, drops {dropped}"), 0, call);
     }
 
     /// A flush that does something; the row's name says how much.
@@ -266,4 +271,12 @@ pub fn rows() -> Vec<Row> {
     refusals(&mut rows);
     starts(&mut rows);
     rows
+}
+
+/// Tests that no two rows have the same name and fill.
+pub fn expect_distinct(rows: &[Row]) {
+    let mut labels = HashSet::new();
+    for row in rows {
+        assert!(labels.insert((&row.name, row.fill)), "two rows are {} ({})", row.name, row.fill);
+    }
 }

@@ -29,7 +29,7 @@ pub enum Surviving {
     Bytes(Vec<u8>),
 }
 
-/// One of the nine calls. A page buffer is given by its length.
+/// One of the ten calls. A page buffer is given by its length.
 #[derive(Clone, Debug, PartialEq)]
 pub enum Call {
     Fresh,
@@ -41,10 +41,11 @@ pub enum Call {
     ClockRead { tick: u64, page: u64, buffer: usize },
     CurrentRead { page: u64, buffer: usize },
     Standing,
+    Known,
 }
 
 /// The names of the calls, in the order of [`Call::kind`].
-pub const KINDS: [&str; 9] = [
+pub const KINDS: [&str; 10] = [
     "fresh",
     "restart",
     "commit",
@@ -54,6 +55,7 @@ pub const KINDS: [&str; 9] = [
     "clock read",
     "current read",
     "standing",
+    "known",
 ];
 
 impl Call {
@@ -69,6 +71,7 @@ impl Call {
             Call::ClockRead { .. } => 6,
             Call::CurrentRead { .. } => 7,
             Call::Standing => 8,
+            Call::Known => 9,
         }
     }
 }

@@ -50,7 +50,8 @@ pub fn of_kind(kind: usize, view: &View, mood: &Mood, chance: &mut Chance) -> Ca
             let page = page(view, mood, chance);
             Call::CurrentRead { page, buffer: buffer(mood, chance) }
         }
-        _ => Call::Standing,
+        8 => Call::Standing,
+        _ => Call::Known,
     }
 }
 

@@ -21,6 +21,8 @@ pub enum Fault {
     Buffer,
     /// A lag below zero is one off.
     Lag,
+    /// Known leaves out the last of 64 snapshots.
+    LastKnown,
     /// A flush of the last page writes a bit of the last disk stamp.
     DiskStamp,
     /// A message that leaves two past values or more changes the order of the first two.
@@ -38,13 +40,14 @@ pub enum Fault {
 }
 
 /// All faults, by name.
-pub const FAULTS: [(&str, Fault); 13] = [
+pub const FAULTS: [(&str, Fault); 14] = [
     ("code", Fault::Code),
     ("number", Fault::Number),
     ("place", Fault::Place),
     ("journal-byte", Fault::JournalByte),
     ("buffer", Fault::Buffer),
     ("lag", Fault::Lag),
+    ("last-known", Fault::LastKnown),
     ("disk-stamp", Fault::DiskStamp),
     ("past-order", Fault::PastOrder),
     ("last-copy", Fault::LastCopy),
@@ -107,6 +110,11 @@ impl Fault {
             (Fault::Lag, Call::Standing) => {
                 if let Some(figures) = outcome.figures.as_mut().filter(|figures| figures.lag < 0) {
                     figures.lag += 1;
+                }
+            }
+            (Fault::LastKnown, Call::Known) => {
+                if let Some(known) = outcome.known.as_mut().filter(|known| known.count == 64) {
+                    known.stamps[63] = 0;
                 }
             }
             _ => {}

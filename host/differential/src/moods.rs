@@ -6,7 +6,7 @@ use crate::chance::Chance;
 /// What a run tends to do.
 pub struct Mood {
     /// How often each call is made, in the order of `call::KINDS`.
-    pub weights: [u64; 9],
+    pub weights: [u64; 10],
     /// The objects that ordinary commits write.
     pub objects: Vec<u64>,
     /// Most writes of an ordinary commit.
@@ -34,6 +34,7 @@ impl Mood {
             reads,
             reads,
             reads,
+            reads,
         ];
         Mood {
             weights,
@@ -47,13 +48,13 @@ impl Mood {
 
     /// A mood in which few calls are refused, for journals that are to grow.
     pub fn steady(chance: &mut Chance) -> Mood {
-        let weights = [0, 0, 20, 8, 12, 0, 0, 0, 0];
+        let weights = [0, 0, 20, 8, 12, 0, 0, 0, 0, 0];
         Mood { weights, odd: u64::MAX, ..Mood::by_chance(chance) }
     }
 
     /// A mood in which a journal of any length fills: one page, one snapshot in a while.
     pub fn filling(chance: &mut Chance) -> Mood {
-        let weights = [0, 0, 30, 20, 10, 1, 1, 1, 1];
+        let weights = [0, 0, 30, 20, 10, 1, 1, 1, 1, 1];
         let objects = (496..512).collect();
         Mood { weights, objects, writes: 16, snapshots: 0, step: 20, ..Mood::by_chance(chance) }
     }

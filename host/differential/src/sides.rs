@@ -2,11 +2,11 @@
 
 use crate::call::{Call, Lent, Surviving};
 use crate::chance;
-use jibcradle::{Moved, Reply, Report, Standing};
+use jibcradle::{Knowledge, Moved, Reply, Report, Standing};
 use std::fmt;
 
-/// The nine calls, as both stores have them.
-pub trait Nine {
+/// The ten calls, as both stores have them.
+pub trait Ten {
     fn fresh(&mut self) -> Moved;
     fn restart(&mut self, journal: &[u8]) -> Moved;
     fn commit(&mut self, lent: Journal, t: u64, objects: &[u64], values: &[u64]) -> Moved;
@@ -16,6 +16,7 @@ pub trait Nine {
     fn clock_read(&self, tick: u64, page: u64, buffer: &mut [u64]) -> Reply;
     fn current_read(&self, page: u64, buffer: &mut [u64]) -> Reply;
     fn standing(&self) -> Report;
+    fn known(&self) -> Knowledge;
 }
 
 /// A journal lent to a change, and the used length told.
@@ -24,7 +25,7 @@ pub struct Journal<'a> {
     used: usize,
 }
 
-impl Nine for jibcradle::Store {
+impl Ten for jibcradle::Store {
     fn fresh(&mut self) -> Moved {
         self.reset()
     }
@@ -52,6 +53,9 @@ impl Nine for jibcradle::Store {
     fn standing(&self) -> Report {
         self.standing()
     }
+    fn known(&self) -> Knowledge {
+        self.known()
+    }
 }
 
 /// The independent store's answer to a change, in the library's type.
@@ -64,7 +68,7 @@ fn reply((code, number): (u8, u64)) -> Reply {
     Reply { code: u64::from(code), number }
 }
 
-impl Nine for independent::Store {
+impl Ten for independent::Store {
     fn fresh(&mut self) -> Moved {
         moved(self.reset())
     }
@@ -94,6 +98,12 @@ impl Nine for independent::Store {
         let independent::Figures { pending, past, snapshots, copies, lag } = figures;
         Report { code: u64::from(code), number, pending, past, snapshots, copies, lag }
     }
+    fn known(&self) -> Knowledge {
+        let (code, number, known) = self.known();
+        let independent::Known { horizon, last, snapshots: stamps, snapshot_count } = known;
+        let count = snapshot_count as u64;
+        Knowledge { code: u64::from(code), number, horizon, last, count, stamps }
+    }
 }
 
 /// All that a call hands back, the run's own journal and the store aside.
@@ -105,6 +115,8 @@ pub struct Outcome {
     pub place: Option<usize>,
     /// The figures, of standing.
     pub figures: Option<Standing>,
+    /// All of what known answers.
+    pub known: Option<Knowledge>,
     /// The page buffer, of a read.
     pub buffer: Vec<u64>,
     /// The journal lent, where it isn't the run's own.
@@ -122,6 +134,11 @@ impl Outcome {
         let figures = Some(Standing { pending, past, snapshots, copies, lag });
         Outcome { code, number, figures, ..Outcome::default() }
     }
+
+    fn knew(known: Knowledge) -> Outcome {
+        let Knowledge { code, number, .. } = known;
+        Outcome { code, number, known: Some(known), ..Outcome::default() }
+    }
 }
 
 /// An outcome on one line, but for a journal that was lent.
@@ -133,6 +150,9 @@ impl fmt::Display for Outcome {
         }
         if let Some(figures) = &self.figures {
             write!(out, ", {figures:?}")?;
+        }
+        if let Some(known) = &self.known {
+            write!(out, ", {known:?}")?;
         }
         if !self.buffer.is_empty() {
             write!(out, ", buffer {:?}", self.buffer)?;
@@ -152,7 +172,7 @@ pub struct Side<S> {
     pub place: usize,
 }
 
-impl<S: Nine> Side<S> {
+impl<S: Ten> Side<S> {
     /// Makes a call.
     pub fn play(&mut self, call: &Call) -> Outcome {
         match call {
@@ -179,6 +199,7 @@ impl<S: Nine> Side<S> {
                 self.read(*buffer, |store, buffer| store.current_read(*page, buffer))
             }
             Call::Standing => Outcome::stood(self.store.standing()),
+            Call::Known => Outcome::knew(self.store.known()),
         }
     }
 

@@ -17,6 +17,7 @@ const ALLOWED: [&[u64]; KINDS.len()] = [
     &[0, 2, 3, 13, 14],
     &[0, 2, 3],
     &[0, 2],
+    &[0, 2],
 ];
 
 /// How often each call answered each code.

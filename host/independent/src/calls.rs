@@ -33,6 +33,25 @@ pub struct Figures {
     pub lag: i64,
 }
 
+/// What [`Store::known`] tells.
+#[derive(Clone, Copy, Debug, PartialEq, Eq)]
+pub struct Known {
+    /// The horizon.
+    pub horizon: u64,
+    /// The last commit.
+    pub last: u64,
+    /// Known snapshots, strictly ascending; 0 from their number on.
+    pub snapshots: [u64; SNAPSHOTS],
+    /// Number of known snapshots.
+    pub snapshot_count: usize,
+}
+
+impl Default for Known {
+    fn default() -> Known {
+        Known { horizon: 0, last: 0, snapshots: [0; SNAPSHOTS], snapshot_count: 0 }
+    }
+}
+
 /// A code other than 0 and its number.
 #[derive(Clone, Copy, Debug, PartialEq, Eq)]
 pub(crate) struct Refusal(pub(crate) u8, pub(crate) u64);
@@ -267,6 +286,23 @@ impl Store {
             lag: (self.last / 256) as i64 - (self.horizon / 256) as i64,
         };
         (code::DONE, 0, figures)
+    }
+
+    /// Tells the horizon, the last commit and all known snapshots.
+    pub fn known(&self) -> (u8, u64, Known) {
+        let mut rows = [0; OBJECTS];
+        if !self.sound(&mut rows) {
+            return (code::DAMAGED, 0, Known::default());
+        }
+        let mut known = Known {
+            horizon: self.horizon,
+            last: self.last,
+            snapshot_count: self.snapshot_count,
+            ..Known::default()
+        };
+        // Rows past the count aren't contents and stay behind.
+        known.snapshots[..self.snapshot_count].copy_from_slice(self.snapshots());
+        (code::DONE, 0, known)
     }
 
     /// Makes this a fresh store, whatever it was. The journal counts as empty from here.

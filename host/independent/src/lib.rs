@@ -21,7 +21,7 @@ mod restart;
 mod rules;
 mod tables;
 
-pub use calls::{Figures, Reply};
+pub use calls::{Figures, Known, Reply};
 pub use tables::{Copy, Past, Pending, Store};
 
 /// Number of pages.

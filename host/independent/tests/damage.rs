@@ -38,6 +38,7 @@ fn refused(store: &Store, what: &str) {
         }
         assert_eq!(after.current_read(page, &mut page_buffer), (2, 0), "{what}");
         assert_eq!(after.standing(), (2, 0, Figures::default()), "{what}");
+        assert_eq!(after.known(), (2, 0, known(0, 0, &[])), "{what}");
         assert!(page_buffer.iter().all(|&value| value == 9), "{what}");
         assert!(identical(&after, store), "{what}");
     }
@@ -59,6 +60,7 @@ fn refused(store: &Store, what: &str) {
 fn the_sample_is_sound() {
     let figures = Figures { pending: 3, past: 2, snapshots: 3, copies: 2, lag: 0 };
     assert_eq!(sample().standing(), (0, 0, figures));
+    assert_eq!(sample().known(), (0, 0, known(33, 40, &[10, 20, 30])));
 }
 
 #[test]
@@ -200,4 +202,5 @@ fn what_is_not_damage() {
     let figures =
         Figures { pending: 3, past: 5, snapshots: 1, copies: 4, lag: (u64::MAX / 256) as i64 };
     assert_eq!(odd.standing(), (0, 0, figures));
+    assert_eq!(odd.known(), (0, 0, known(33, u64::MAX, &[33])));
 }

@@ -224,6 +224,7 @@ fn both(
 
 fn reads(chance: &mut Chance, store: &Store, model: &Model) {
     assert_eq!(store.standing(), model.standing());
+    assert_eq!(store.known(), model.known());
     for _ in 0..4 {
         let page = if chance.one_in(20) { chance.pick(&[32, u64::MAX]) } else { chance.below(3) };
         let length = if chance.one_in(20) { chance.pick(&[0, 15, 17]) } else { 16 };

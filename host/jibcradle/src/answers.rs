@@ -1,10 +1,11 @@
 //! What the calls answer: as the library hands it back, and as Rust would have it.
 
-use crate::{Refusal, SLOTS};
+use crate::{Refusal, SLOTS, SNAPSHOTS};
 
 /// What a change, a fresh start or a restart answers, as the library hands it back.
 #[repr(C)]
 #[derive(Clone, Copy, Debug, Default, PartialEq, Eq)]
+#[must_use = "the call may have been refused, and the next one needs the place"]
 pub struct Moved {
     /// The code, 0 to 17.
     pub code: u64,
@@ -17,6 +18,7 @@ pub struct Moved {
 /// What a read answers, as the library hands it back.
 #[repr(C)]
 #[derive(Clone, Copy, Debug, Default, PartialEq, Eq)]
+#[must_use = "the read may have been refused, and then the buffer is as it was"]
 pub struct Reply {
     /// The code, 0 to 17.
     pub code: u64,
@@ -27,6 +29,7 @@ pub struct Reply {
 /// What standing answers, as the library hands it back.
 #[repr(C)]
 #[derive(Clone, Copy, Debug, Default, PartialEq, Eq)]
+#[must_use = "the call does nothing but answer"]
 pub struct Report {
     /// The code, 0 or 2.
     pub code: u64,
@@ -42,6 +45,25 @@ pub struct Report {
     pub copies: u64,
     /// Tick of the last commit minus tick of the horizon.
     pub lag: i64,
+}
+
+/// What known answers, as the library hands it back.
+#[repr(C)]
+#[derive(Clone, Copy, Debug, PartialEq, Eq)]
+#[must_use = "the call does nothing but answer"]
+pub struct Knowledge {
+    /// The code, 0 or 2.
+    pub code: u64,
+    /// The number that goes with it.
+    pub number: u64,
+    /// The horizon: all snapshots up to here are known.
+    pub horizon: u64,
+    /// The stamp of the last commit.
+    pub last: u64,
+    /// How many snapshots are known.
+    pub count: u64,
+    /// The known snapshots, ascending; 0 from `count` on.
+    pub stamps: [u64; SNAPSHOTS],
 }
 
 /// A change that wasn't refused.
@@ -77,13 +99,29 @@ pub struct Standing {
     pub lag: i64,
 }
 
-/// The refusal with this code, which is from 2 up.
+/// Which snapshots the store knows, and how far it knows them.
+#[derive(Clone, Debug, Default, PartialEq, Eq)]
+pub struct Known {
+    /// The horizon: all snapshots up to here are known, and no commit is taken up to here.
+    pub horizon: u64,
+    /// The stamp of the last commit.
+    pub last: u64,
+    /// The known snapshots, ascending, at most 64.
+    pub snapshots: Vec<u64>,
+}
+
+/// The refusal with this code. A code that no refusal has (0 and 1 too, where the call doesn't
+/// have them) is [`Refusal::Unknown`].
 fn refusal(code: u64, number: u64) -> Refusal {
-    Refusal::of(code, number).expect("the store answers the codes 0 to 17 only")
+    Refusal::of(code, number).unwrap_or(Refusal::Unknown { code, number })
 }
 
 impl Moved {
     /// The answer as a result.
+    ///
+    /// # Errors
+    ///
+    /// The refusal, where the code is from 2 up.
     pub fn outcome(self) -> Result<Change, Refusal> {
         match self.code {
             0 => Ok(Change::Written(self.place)),
@@ -95,6 +133,10 @@ impl Moved {
 
 impl Reply {
     /// The answer as a result: the number, or a refusal.
+    ///
+    /// # Errors
+    ///
+    /// The refusal, where the code isn't 0.
     pub fn outcome(self) -> Result<u64, Refusal> {
         match self.code {
             0 => Ok(self.number),
@@ -105,11 +147,62 @@ impl Reply {
 
 impl Report {
     /// The answer as a result.
+    ///
+    /// # Errors
+    ///
+    /// The refusal, where the code isn't 0.
     pub fn outcome(self) -> Result<Standing, Refusal> {
         let Report { code, number, pending, past, snapshots, copies, lag } = self;
         match code {
             0 => Ok(Standing { pending, past, snapshots, copies, lag }),
             code => Err(refusal(code, number)),
         }
+    }
+}
+
+impl Knowledge {
+    /// The answer as a result.
+    ///
+    /// # Errors
+    ///
+    /// The refusal, where the code isn't 0.
+    pub fn outcome(self) -> Result<Known, Refusal> {
+        let Knowledge { code, number, horizon, last, count, stamps } = self;
+        match code {
+            0 => {
+                // The library's count is at most 64; a program's own may be anything.
+                let count = usize::try_from(count).unwrap_or(SNAPSHOTS).min(SNAPSHOTS);
+                Ok(Known { horizon, last, snapshots: stamps[..count].to_vec() })
+            }
+            code => Err(refusal(code, number)),
+        }
+    }
+}
+
+#[cfg(test)]
+mod tests {
+    use super::*;
+
+    /// Every code that a program can put into an answer has an outcome.
+    #[test]
+    fn no_code_makes_an_outcome_panic() {
+        for code in (0..=20).chain([99, u64::MAX]) {
+            let moved = Moved { code, number: 7, place: 7 }.outcome();
+            let reply = Reply { code, number: 7 }.outcome();
+            let report = Report { code, number: 7, ..Report::default() }.outcome();
+            let stamps = [3; SNAPSHOTS];
+            let known = Knowledge { code, number: 7, horizon: 9, last: 8, count: u64::MAX, stamps };
+            let known = known.outcome();
+            assert_eq!(moved.is_ok(), code <= 1);
+            assert_eq!([reply.is_ok(), report.is_ok(), known.is_ok()], [code == 0; 3]);
+            let refusals = [moved.err(), reply.err(), report.err(), known.err()];
+            for refusal in refusals.into_iter().flatten() {
+                assert_eq!(refusal.code(), code);
+            }
+        }
+        let odd = Reply { code: 99, number: 7 }.outcome();
+        assert_eq!(odd, Err(Refusal::Unknown { code: 99, number: 7 }));
+        let odd = Reply { code: 1, number: 7 }.outcome();
+        assert_eq!(odd, Err(Refusal::Unknown { code: 1, number: 7 }));
     }
 }

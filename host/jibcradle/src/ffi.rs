@@ -1,5 +1,5 @@
-//! The nine calls of the static library, each behind a safe function. All of the crate's `unsafe`
-//! is here.
+//! The ten calls of the static library, and one of the system's, each behind a safe function. All
+//! of the crate's `unsafe` is here.
 //!
 //! Common to all: the library is proved to take every input whatever and to touch no memory but
 //! what it is lent. A lent store is a `repr(C)` struct of integers only, whose layout is checked
@@ -9,7 +9,7 @@
 
 #![allow(unsafe_code)]
 
-use crate::answers::{Moved, Reply, Report};
+use crate::answers::{Knowledge, Moved, Reply, Report};
 use crate::store::{Heads, Store};
 use std::mem::{align_of, offset_of, size_of};
 
@@ -22,7 +22,8 @@ const _: () = assert!(offset_of!(Store, snapshots) == 20_480);
 const _: () = assert!(offset_of!(Store, copies) == 20_992 && offset_of!(Store, copied) == 23_040);
 const _: () = assert!(offset_of!(Store, heads) == 39_424);
 const _: () = assert!(size_of::<Moved>() == 24 && size_of::<Reply>() == 16);
-const _: () = assert!(size_of::<Report>() == 56);
+const _: () = assert!(size_of::<Report>() == 56 && size_of::<Knowledge>() == 552);
+const _: () = assert!(offset_of!(Knowledge, stamps) == 40);
 
 extern "C" {
     fn jibcradle_fresh(store: *mut Store) -> Moved;
@@ -76,6 +77,12 @@ extern "C" {
         length: usize,
     ) -> Reply;
     fn jibcradle_standing(store: *const Store) -> Report;
+    fn jibcradle_known(store: *const Store) -> Knowledge;
+}
+
+extern "C" {
+    /// The C library's: the group of a process, or a negative number.
+    fn getpgid(process: i32) -> i32;
 }
 
 pub(crate) fn fresh(store: &mut Store) -> Moved {
@@ -161,4 +168,17 @@ pub(crate) fn current_read(store: &Store, page: u64, buffer: &mut [u64]) -> Repl
 pub(crate) fn standing(store: &Store) -> Report {
     // SAFETY: the store is lent for reading, and it alone is touched.
     unsafe { jibcradle_standing(store) }
+}
+
+pub(crate) fn known(store: &Store) -> Knowledge {
+    // SAFETY: the store is lent for reading, and it alone is touched.
+    unsafe { jibcradle_known(store) }
+}
+
+/// Whether there is a process with this number, one that isn't ours to look at too.
+pub(crate) fn process_exists(process: i32) -> bool {
+    const NO_SUCH_PROCESS: i32 = 3;
+    // SAFETY: a number goes in and a number comes out.
+    let group = unsafe { getpgid(process) };
+    group >= 0 || std::io::Error::last_os_error().raw_os_error() != Some(NO_SUCH_PROCESS)
 }

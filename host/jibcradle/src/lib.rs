@@ -2,10 +2,14 @@
 //! object repository with commits, gossip of snapshots, flushes of pages, and reads of any known
 //! snapshot.
 //!
-//! * [`Catalogue`] owns the store, its journal and the journal's place. It is what most programs
-//!   want.
-//! * [`Store`] is the store's memory itself, with the nine calls as the library has them, for
+//! * [`Catalogue::open`] gives a [`FileCatalogue`], whose journal is kept in a file: what is
+//!   acknowledged is there for good, killed or not. It is what most programs want.
+//! * [`Catalogue`] owns the store, its journal and the journal's place, all in memory.
+//! * [`Store`] is the store's memory itself, with the ten calls as the library has them, for
 //!   programs that keep the journal on their own.
+//!
+//! A call that the store refuses gives a [`Refusal`], with the scope document's code, number and
+//! name. Calls that also need the file give an [`Error`], of which a refusal is one.
 //!
 //! A stamp is a clock tick (milliseconds) x 256 + a node number; 0 is before everything.
 //!
@@ -33,12 +37,20 @@
 
 mod answers;
 mod catalogue;
+mod error;
 mod ffi;
+mod file_catalogue;
+mod journal_file;
+mod lock;
+mod process;
 mod refusal;
 mod store;
 
-pub use answers::{Change, Moved, Reply, Report, Snapshot, Standing};
+pub use answers::{Change, Knowledge, Known, Moved, Reply, Report, Snapshot, Standing};
 pub use catalogue::Catalogue;
+pub use error::Error;
+pub use file_catalogue::FileCatalogue;
+pub use journal_file::Torn;
 pub use refusal::Refusal;
 pub use store::{Copied, Heads, Past, Pending, Store};
 

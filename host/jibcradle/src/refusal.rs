@@ -1,161 +1,152 @@
-//! Why a call was refused: the codes from 2 up, each with its number.
+//! Why a call was refused: the codes from 2 up, each with its number. All of them stand in one
+//! table at the end of the file.
 
 use std::fmt;
 
-/// A refused call. It has changed nothing; a refused restart has left a fresh store.
-#[derive(Clone, Copy, Debug, PartialEq, Eq, Hash)]
-pub enum Refusal {
-    /// Code 2: the tables aren't those of a store. Never answered by a store reached by calls.
-    Damaged,
-    /// Code 3: a list, page, object, tick, buffer, journal or used length is out of range.
-    Shape,
-    /// Code 4: a commit names one object twice.
-    Twice,
-    /// Code 5: a commit isn't after the last commit and the horizon.
-    Late {
-        /// The larger of the last commit and the horizon.
-        latest: u64,
-    },
-    /// Code 6: a message starts beyond the horizon.
-    Gap {
-        /// The horizon.
-        horizon: u64,
-    },
-    /// Code 7: a message disagrees with the known snapshots.
-    Conflict {
-        /// The smallest stamp that only one of them has.
-        stamp: u64,
-    },
-    /// Code 8: no room for the pending entries.
-    PendingFull,
-    /// Code 9: no room for the past values.
-    PastFull,
-    /// Code 10: no room for the snapshots.
-    SnapshotsFull,
-    /// Code 11: no room for the archived copies.
-    ArchiveFull,
-    /// Code 12: no room in the journal.
-    NoJournalRoom {
-        /// The used length it would have reached.
-        needed: u64,
-    },
-    /// Code 13: the time read lies beyond the horizon.
-    Ahead {
-        /// The horizon.
-        horizon: u64,
-    },
-    /// Code 14: no known snapshot at or before the time read.
-    NoSnapshot,
-    /// Code 15: the journal has another version.
-    Version {
-        /// The byte found.
-        found: u64,
-    },
-    /// Code 16: a record of the journal isn't well formed.
-    Malformed {
-        /// Offset of the record's length.
-        offset: u64,
-    },
-    /// Code 17: a well-formed record isn't one that the rebuilt store would have written.
-    Contradiction {
-        /// Offset of the record's length.
-        offset: u64,
-    },
+/// The number that goes with a code: the field's, or 0 where the refusal has none.
+macro_rules! number_of {
+    () => {
+        0
+    };
+    ($field:ident) => {
+        $field
+    };
 }
 
-impl Refusal {
-    /// The refusal with this code and number; none for the codes 0 and 1, and those over 17.
-    pub fn of(code: u64, number: u64) -> Option<Refusal> {
-        Some(match code {
-            2 => Refusal::Damaged,
-            3 => Refusal::Shape,
-            4 => Refusal::Twice,
-            5 => Refusal::Late { latest: number },
-            6 => Refusal::Gap { horizon: number },
-            7 => Refusal::Conflict { stamp: number },
-            8 => Refusal::PendingFull,
-            9 => Refusal::PastFull,
-            10 => Refusal::SnapshotsFull,
-            11 => Refusal::ArchiveFull,
-            12 => Refusal::NoJournalRoom { needed: number },
-            13 => Refusal::Ahead { horizon: number },
-            14 => Refusal::NoSnapshot,
-            15 => Refusal::Version { found: number },
-            16 => Refusal::Malformed { offset: number },
-            17 => Refusal::Contradiction { offset: number },
-            _ => return None,
-        })
-    }
-
-    /// The code, 2 to 17.
-    pub fn code(self) -> u64 {
-        match self {
-            Refusal::Damaged => 2,
-            Refusal::Shape => 3,
-            Refusal::Twice => 4,
-            Refusal::Late { .. } => 5,
-            Refusal::Gap { .. } => 6,
-            Refusal::Conflict { .. } => 7,
-            Refusal::PendingFull => 8,
-            Refusal::PastFull => 9,
-            Refusal::SnapshotsFull => 10,
-            Refusal::ArchiveFull => 11,
-            Refusal::NoJournalRoom { .. } => 12,
-            Refusal::Ahead { .. } => 13,
-            Refusal::NoSnapshot => 14,
-            Refusal::Version { .. } => 15,
-            Refusal::Malformed { .. } => 16,
-            Refusal::Contradiction { .. } => 17,
+/// Makes [`Refusal`] and all that is said of it from a table: code, name, variant with its number
+/// if it has one, sentence, and the variant's documentation.
+macro_rules! refusals {
+    ($(
+        $code:literal $name:literal
+        $variant:ident $({ $field:ident: $field_is:literal })?
+        $sentence:literal
+        $is:literal;
+    )*) => {
+        /// A refused call. It has changed nothing; a refused restart has left a fresh store.
+        ///
+        /// There may be more of them one day, so a `match` needs a last arm for the others.
+        #[derive(Clone, Copy, Debug, PartialEq, Eq, Hash)]
+        #[non_exhaustive]
+        pub enum Refusal {
+            $(
+                #[doc = concat!("Code ", $code, ", *", $name, "*: ", $is)]
+                $variant $({
+                    #[doc = $field_is]
+                    $field: u64,
+                })?,
+            )*
+            /// A code that no refusal has. The library never answers one; it is here for answers
+            /// that a program made by itself.
+            Unknown {
+                /// The code.
+                code: u64,
+                /// The number that came with it.
+                number: u64,
+            },
         }
-    }
 
-    /// The number that goes with the code, 0 where it has none.
-    pub fn number(self) -> u64 {
-        match self {
-            Refusal::Late { latest: number }
-            | Refusal::Gap { horizon: number }
-            | Refusal::Conflict { stamp: number }
-            | Refusal::NoJournalRoom { needed: number }
-            | Refusal::Ahead { horizon: number }
-            | Refusal::Version { found: number }
-            | Refusal::Malformed { offset: number }
-            | Refusal::Contradiction { offset: number } => number,
-            _ => 0,
+        impl Refusal {
+            /// The refusal with this code and number; none for the codes 0 and 1, which are no
+            /// refusals.
+            pub fn of(code: u64, number: u64) -> Option<Refusal> {
+                match code {
+                    0 | 1 => None,
+                    $($code => Some(Refusal::$variant $({ $field: number })?),)*
+                    _ => Some(Refusal::Unknown { code, number }),
+                }
+            }
+
+            /// The code: 2 to 17, but for [`Refusal::Unknown`].
+            pub fn code(self) -> u64 {
+                match self {
+                    $(Refusal::$variant { .. } => $code,)*
+                    Refusal::Unknown { code, .. } => code,
+                }
+            }
+
+            /// The number that goes with the code, 0 where it has none.
+            pub fn number(self) -> u64 {
+                match self {
+                    $(Refusal::$variant $({ $field })? => number_of!($($field)?),)*
+                    Refusal::Unknown { number, .. } => number,
+                }
+            }
+
+            /// The name that the scope document gives the code, as the command prints it.
+            pub fn name(self) -> &'static str {
+                match self {
+                    $(Refusal::$variant { .. } => $name,)*
+                    Refusal::Unknown { .. } => "Unknown",
+                }
+            }
         }
-    }
+
+        /// A sentence for a person, with the number in it.
+        impl fmt::Display for Refusal {
+            fn fmt(&self, out: &mut fmt::Formatter<'_>) -> fmt::Result {
+                match self {
+                    $(Refusal::$variant $({ $field })? => write!(out, $sentence),)*
+                    Refusal::Unknown { code, number } => {
+                        write!(out, "code {code}, number {number}: no refusal has it")
+                    }
+                }
+            }
+        }
+
+        #[cfg(test)]
+        const TABLE: &[(u64, &str)] = &[$(($code, $name)),*];
+    };
 }
 
-impl fmt::Display for Refusal {
-    fn fmt(&self, out: &mut fmt::Formatter<'_>) -> fmt::Result {
-        match self {
-            Refusal::Damaged => write!(out, "the store is damaged"),
-            Refusal::Shape => write!(out, "an argument is out of range"),
-            Refusal::Twice => write!(out, "an object is named twice"),
-            Refusal::Late { latest } => write!(out, "the commit isn't after stamp {latest}"),
-            Refusal::Gap { horizon } => {
-                write!(out, "the message starts beyond the horizon {horizon}")
-            }
-            Refusal::Conflict { stamp } => {
-                write!(out, "message and store disagree on the snapshot {stamp}")
-            }
-            Refusal::PendingFull => write!(out, "no room for the pending entries"),
-            Refusal::PastFull => write!(out, "no room for the past values"),
-            Refusal::SnapshotsFull => write!(out, "no room for the snapshots"),
-            Refusal::ArchiveFull => write!(out, "no room for the archived copies"),
-            Refusal::NoJournalRoom { needed } => {
-                write!(out, "the journal would have to hold {needed} bytes")
-            }
-            Refusal::Ahead { horizon } => {
-                write!(out, "the time lies beyond the horizon {horizon}")
-            }
-            Refusal::NoSnapshot => write!(out, "no known snapshot at or before the time"),
-            Refusal::Version { found } => write!(out, "the journal has version {found}, not 1"),
-            Refusal::Malformed { offset } => write!(out, "the record at {offset} is malformed"),
-            Refusal::Contradiction { offset } => {
-                write!(out, "the record at {offset} contradicts those before it")
-            }
-        }
-    }
+refusals! {
+    2 "Damaged" Damaged
+        "the store is damaged"
+        "the tables aren't those of a store. Never answered by a store reached by calls.";
+    3 "Shape" Shape
+        "an argument is out of range"
+        "a list, page, object, tick, buffer, journal or used length is out of range.";
+    4 "Twice" Twice
+        "an object is named twice"
+        "a commit names one object twice.";
+    5 "Late" Late { latest: "The larger of the last commit and the horizon." }
+        "the commit isn't after stamp {latest}"
+        "a commit isn't after the last commit and the horizon.";
+    6 "Gap" Gap { horizon: "The horizon." }
+        "the message starts beyond the horizon {horizon}"
+        "a message starts beyond the horizon.";
+    7 "Conflict" Conflict { stamp: "The smallest stamp that only one of them has." }
+        "message and store disagree on the snapshot {stamp}"
+        "a message disagrees with the known snapshots.";
+    8 "Pending full" PendingFull
+        "no room for the pending entries"
+        "no room for the pending entries.";
+    9 "Past full" PastFull
+        "no room for the past values"
+        "no room for the past values.";
+    10 "Snapshots full" SnapshotsFull
+        "no room for the snapshots"
+        "no room for the snapshots.";
+    11 "Archive full" ArchiveFull
+        "no room for the archived copies"
+        "no room for the archived copies.";
+    12 "No journal room" NoJournalRoom { needed: "The used length it would have reached." }
+        "the journal would have to hold {needed} bytes"
+        "no room in the journal.";
+    13 "Ahead" Ahead { horizon: "The horizon." }
+        "the time lies beyond the horizon {horizon}"
+        "the time read lies beyond the horizon.";
+    14 "No snapshot" NoSnapshot
+        "no known snapshot at or before the time"
+        "no known snapshot at or before the time read.";
+    15 "Version" Version { found: "The byte found." }
+        "the journal has version {found}, not 1"
+        "the journal has another version.";
+    16 "Malformed" Malformed { offset: "Offset of the record's length." }
+        "the record at {offset} is malformed"
+        "a record of the journal isn't well formed.";
+    17 "Contradiction" Contradiction { offset: "Offset of the record's length." }
+        "the record at {offset} contradicts those before it"
+        "a well-formed record isn't one that the rebuilt store would have written.";
 }
 
 impl std::error::Error for Refusal {}
@@ -166,15 +157,24 @@ mod tests {
 
     #[test]
     fn each_code_is_the_one_it_was_made_of() {
-        for code in 2..=17 {
+        assert_eq!(TABLE.iter().map(|row| row.0).collect::<Vec<_>>(), (2..=17).collect::<Vec<_>>());
+        for &(code, name) in TABLE {
             let refusal = Refusal::of(code, 77).unwrap();
-            assert_eq!(refusal.code(), code);
+            assert_eq!((refusal.code(), refusal.name()), (code, name));
             let numbered = [5, 6, 7, 12, 13, 15, 16, 17].contains(&code);
             assert_eq!(refusal.number(), if numbered { 77 } else { 0 });
-            assert!(!refusal.to_string().is_empty());
+            assert_eq!(refusal.to_string().contains("77"), numbered);
         }
-        for code in [0, 1, 18, u64::MAX] {
-            assert_eq!(Refusal::of(code, 0), None);
+    }
+
+    #[test]
+    fn codes_that_no_refusal_has() {
+        assert_eq!((Refusal::of(0, 5), Refusal::of(1, 5)), (None, None));
+        for code in [18, 99, u64::MAX] {
+            let refusal = Refusal::of(code, 5).unwrap();
+            assert_eq!(refusal, Refusal::Unknown { code, number: 5 });
+            assert_eq!((refusal.code(), refusal.number(), refusal.name()), (code, 5, "Unknown"));
+            assert!(refusal.to_string().contains(&code.to_string()));
         }
     }
 }

@@ -1,6 +1,6 @@
-//! The store's memory, and the nine calls as the library has them.
+//! The store's memory, and the ten calls as the library has them.
 
-use crate::answers::{Moved, Reply, Report};
+use crate::answers::{Knowledge, Moved, Reply, Report};
 use crate::{ffi, COPIES, OBJECTS, PAST, PENDING, SLOTS, SNAPSHOTS};
 use std::fmt;
 
@@ -117,7 +117,8 @@ impl Store {
             copied: [0; COPIES * SLOTS],
             heads: Heads::default(),
         };
-        store.reset();
+        // A fresh start is never refused, and its place is 0.
+        let _ = store.reset();
         store
     }
 
@@ -181,6 +182,11 @@ impl Store {
     /// Counts the tables' rows and the lag.
     pub fn standing(&self) -> Report {
         ffi::standing(self)
+    }
+
+    /// Tells the horizon, the last commit and all known snapshots.
+    pub fn known(&self) -> Knowledge {
+        ffi::known(self)
     }
 
     /// The pending entries that are contents; all rows where the count is over its limit.

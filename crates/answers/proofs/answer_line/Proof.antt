@@ -5,8 +5,8 @@ use Rattle.answers.proofs.Puts.{put-then, said}
 use Rattle.answers.proofs.answer_line.Statement.{statement}
 use Rattle.answers.proofs.answer_line.Tie as tie
 
-room-requires : tie.Need-room-requires
-room-requires c κs = search needs
+lent-requires : tie.Need-lent-requires
+lent-requires c κs = search needs
 
 answered-requires : tie.Need-answered-requires
 answered-requires c κs = search needs
@@ -24,4 +24,4 @@ returns c = said (put-then (c .before .before .before .answered .ensures .0) (c 
 pub answer-line-spec : {M : Type 1} → statement M
 answer-line-spec =
     tie.close
-    (tie.spec room-requires answered-requires slice-aggregate-bytes bytes-requires returns)
+    (tie.spec lent-requires answered-requires slice-aggregate-bytes bytes-requires returns)

@@ -5,8 +5,8 @@ use Rattle.answers.proofs.Puts.{put-then, said}
 use Rattle.answers.proofs.opened_line.Statement.{statement}
 use Rattle.answers.proofs.opened_line.Tie as tie
 
-room-requires : tie.Need-room-requires
-room-requires c κs = search needs
+lent-requires : tie.Need-lent-requires
+lent-requires c κs = search needs
 
 slice-aggregate-bytes : tie.Need-slice-aggregate-bytes
 slice-aggregate-bytes c = search needs
@@ -31,7 +31,7 @@ pub opened-line-spec : {M : Type 1} → statement M
 opened-line-spec =
     tie.close
     (tie.spec
-    room-requires
+    lent-requires
     slice-aggregate-bytes
     bytes-requires
     answered-requires

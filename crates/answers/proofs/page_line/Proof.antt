@@ -5,8 +5,8 @@ use Rattle.answers.proofs.Puts.{put-then, said}
 use Rattle.answers.proofs.page_line.Statement.{statement}
 use Rattle.answers.proofs.page_line.Tie as tie
 
-room-requires : tie.Need-room-requires
-room-requires c κs = search needs
+lent-requires : tie.Need-lent-requires
+lent-requires c κs = search needs
 
 answered-requires : tie.Need-answered-requires
 answered-requires c κs = search needs
@@ -28,7 +28,7 @@ pub page-line-spec : {M : Type 1} → statement M
 page-line-spec =
     tie.close
     (tie.spec
-    room-requires
+    lent-requires
     answered-requires
     page-requires
     slice-aggregate-bytes

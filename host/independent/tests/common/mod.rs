@@ -77,6 +77,13 @@ pub fn copies_of(store: &Store) -> &[Copy] {
     &store.copies[..store.copy_count]
 }
 
+/// What `known` tells of these.
+pub fn known(horizon: u64, last: u64, snapshots: &[u64]) -> Known {
+    let mut known = Known { horizon, last, snapshots: [0; 64], snapshot_count: snapshots.len() };
+    known.snapshots[..snapshots.len()].copy_from_slice(snapshots);
+    known
+}
+
 /// Sixteen values, of which those named differ from 0.
 pub fn page_with(slots: &[(usize, u64)]) -> [u64; SLOTS] {
     let mut page = [0; SLOTS];
@@ -448,6 +455,13 @@ impl Model {
             lag: i64::try_from(lag).expect("ticks are below 2^56"),
         };
         (0, 0, figures)
+    }
+
+    pub fn known(&self) -> (u8, u64, Known) {
+        if self.damaged() {
+            return (2, 0, known(0, 0, &[]));
+        }
+        (0, 0, known(self.horizon, self.last, &self.snapshots))
     }
 
     pub fn restart(&mut self, journal: &[u8]) -> (u8, u64) {

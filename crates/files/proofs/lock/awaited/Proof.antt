@@ -1,41 +1,50 @@
--- The measure is the number of tries left; no more than the allowed seconds are counted.
-use Prim.Native.Nat.{_≤_}
+-- The lent bytes keep their number; the measure is the number of tries left.
+use mathlib.Core.Path.{_≡_}
+use lib.ListN.{length}
 use borrow.Author.Needs.{needs}
 use Rattle.files.proofs.lock.awaited.Statement.{statement}
 use Rattle.files.proofs.lock.awaited.Tie as tie
+use Rattle.files.proofs.file.is_free.Reads as is-free-reads
+use Rattle.files.proofs.lock.line_in.Reads as line-in-reads
+use Rattle.files.proofs.paths.within.Reads as within-reads
+use Rattle.files.proofs.wait.Wait.next.Reads as next-reads
+use Rattle.files.proofs.wait.begun.Reads as begun-reads
 
 abbrev Inv-loop : tie.InvT-loop
-Inv-loop lock left₀ seconds₀ now₀ left seconds now = seconds ≤ 5
+Inv-loop lock out₀ waiting₀ out waiting = length out ≡ length out₀
 
 abbrev μ-loop : tie.MeasureT-loop
-μ-loop lock left₀ seconds₀ now₀ left seconds now = left
+μ-loop lock out₀ waiting₀ out waiting = waiting .left
 
-second-requires : tie.Need-second-requires Inv-loop μ-loop
-second-requires c κs = search needs
+begun-requires : tie.Need-begun-requires Inv-loop μ-loop
+begun-requires c κs = search needs
 
 loop-holds : tie.Need-loop-holds Inv-loop μ-loop
 loop-holds c = search needs
 
-holder-requires : tie.Need-holder-requires Inv-loop μ-loop
-holder-requires c κs = search needs
+line-in-requires : tie.Need-line-in-requires Inv-loop μ-loop
+line-in-requires c κs = search needs
+
+same-length : tie.Need-same-length Inv-loop μ-loop
+same-length c = search needs
 
 returns : tie.Need-returns Inv-loop μ-loop
 returns c = search needs
 
-sched-yield-requires : tie.Need-sched-yield-requires Inv-loop μ-loop
-sched-yield-requires c κs = search needs
+is-free-requires : tie.Need-is-free-requires Inv-loop μ-loop
+is-free-requires c κs = search needs
 
-sub-left : tie.Need-sub-left Inv-loop μ-loop
-sub-left c = search needs
+within-requires : tie.Need-within-requires Inv-loop μ-loop
+within-requires c κs = search needs
 
-second-requires-2 : tie.Need-second-requires-2 Inv-loop μ-loop
-second-requires-2 c κs = search needs
+same-length-2 : tie.Need-same-length-2 Inv-loop μ-loop
+same-length-2 c = search needs
 
 returns-2 : tie.Need-returns-2 Inv-loop μ-loop
 returns-2 c = search needs
 
-add-seconds : tie.Need-add-seconds Inv-loop μ-loop
-add-seconds c = search needs
+next-requires : tie.Need-next-requires Inv-loop μ-loop
+next-requires c κs = search needs
 
 loop-less : tie.Need-loop-less Inv-loop μ-loop
 loop-less c = search needs
@@ -43,11 +52,11 @@ loop-less c = search needs
 loop-again : tie.Need-loop-again Inv-loop μ-loop
 loop-again c = search needs
 
-loop-less-2 : tie.Need-loop-less-2 Inv-loop μ-loop
-loop-less-2 c = search needs
+within-requires-2 : tie.Need-within-requires-2 Inv-loop μ-loop
+within-requires-2 c κs = search needs
 
-loop-again-2 : tie.Need-loop-again-2 Inv-loop μ-loop
-loop-again-2 c = search needs
+same-length-3 : tie.Need-same-length-3 Inv-loop μ-loop
+same-length-3 c = search needs
 
 returns-3 : tie.Need-returns-3 Inv-loop μ-loop
 returns-3 c = search needs
@@ -58,17 +67,18 @@ awaited-spec =
     (tie.spec
     Inv-loop
     μ-loop
-    second-requires
+    begun-requires
     loop-holds
-    holder-requires
+    line-in-requires
+    same-length
     returns
-    sched-yield-requires
-    sub-left
-    second-requires-2
+    is-free-requires
+    within-requires
+    same-length-2
     returns-2
-    add-seconds
+    next-requires
     loop-less
     loop-again
-    loop-less-2
-    loop-again-2
+    within-requires-2
+    same-length-3
     returns-3)

@@ -37,6 +37,12 @@ read-double-requires c κs = search needs
 enum-told-3 : tie.Need-enum-told-3
 enum-told-3 c = search needs
 
+read-help-requires : tie.Need-read-help-requires
+read-help-requires c κs = search needs
+
+enum-told-4 : tie.Need-enum-told-4
+enum-told-4 c = search needs
+
 returns : tie.Need-returns
 returns c = rw (c .before .before .before .enum-told .given .1) (c .read-commit .ensures)
 
@@ -53,7 +59,10 @@ returns-5 : tie.Need-returns-5
 returns-5 c = let a = c .before .before .before .before .before .args in rw (c .before .before .name3 .given .1) (plain-told (a .firsts .now) (a .seconds .now) (c .read-double .ensures))
 
 returns-6 : tie.Need-returns-6
-returns-6 c = let a = c .before .before .before .args in rw (c .enum-told3 .given .1) (plain-read _ (a .firsts .now) (a .seconds .now))
+returns-6 c = let a = c .before .before .before .before .args in rw (c .before .enum-told3 .given .1) (plain-told (a .firsts .now) (a .seconds .now) (c .read-help .ensures))
+
+returns-7 : tie.Need-returns-7
+returns-7 c = let a = c .before .before .before .args in rw (c .enum-told4 .given .1) (plain-read _ (a .firsts .now) (a .seconds .now))
 
 pub read-call-spec : {M : Type 1} → statement M
 read-call-spec =
@@ -70,9 +79,12 @@ read-call-spec =
     enum-known-name-3
     read-double-requires
     enum-told-3
+    read-help-requires
+    enum-told-4
     returns
     returns-2
     returns-3
     returns-4
     returns-5
-    returns-6)
+    returns-6
+    returns-7)

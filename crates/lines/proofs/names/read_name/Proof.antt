@@ -31,11 +31,11 @@ same-requires-3 c κs = search needs
 returns-3 : tie.Need-returns-3
 returns-3 c = rw (sym (c .before .before .before .before .before .before .before .same .ensures) ∙ c .before .before .before .before .before .before .if1 .left, sym (c .before .before .before .before .same2 .ensures) ∙ c .before .before .before .if2 .left, sym (c .before .same3 .ensures) ∙ c .if3 .taken)
 
-other-name-requires : tie.Need-other-name-requires
-other-name-requires c κs = search needs
+bare-name-requires : tie.Need-bare-name-requires
+bare-name-requires c κs = search needs
 
 returns-4 : tie.Need-returns-4
-returns-4 c = rw (sym (c .before .before .before .before .before .before .before .before .same .ensures) ∙ c .before .before .before .before .before .before .before .if1 .left, sym (c .before .before .before .before .before .same2 .ensures) ∙ c .before .before .before .before .if2 .left, sym (c .before .before .same3 .ensures) ∙ c .before .if3 .left) (c .other-name .ensures)
+returns-4 c = rw (sym (c .before .before .before .before .before .before .before .before .same .ensures) ∙ c .before .before .before .before .before .before .before .if1 .left, sym (c .before .before .before .before .before .same2 .ensures) ∙ c .before .before .before .before .if2 .left, sym (c .before .before .same3 .ensures) ∙ c .before .if3 .left) (c .bare-name .ensures)
 
 pub read-name-spec : {M : Type 1} → statement M
 read-name-spec =
@@ -50,5 +50,5 @@ read-name-spec =
     slice-aggregate-same-3
     same-requires-3
     returns-3
-    other-name-requires
+    bare-name-requires
     returns-4)

@@ -1,8 +1,8 @@
 -- A process number that is not negative fits.
 use borrow.Author.Needs.{needs}
 use Rattle.files.proofs.Signs.{plain}
-use Rattle.files.proofs.lock.own.Statement.{statement}
-use Rattle.files.proofs.lock.own.Tie as tie
+use Rattle.files.proofs.holder.own.Statement.{statement}
+use Rattle.files.proofs.holder.own.Tie as tie
 
 getpid-requires : tie.Need-getpid-requires
 getpid-requires c κs = search needs

@@ -1,14 +1,15 @@
--- The measure is the number of letters left.
+-- The measure is the number of bytes left.
 use Prim.Native.Nat.{_-_}
+use lib.ListN.{length}
 use borrow.Author.Needs.{needs}
-use Rattle.jibcradle.proofs.demo.is_asked.Statement.{statement}
-use Rattle.jibcradle.proofs.demo.is_asked.Tie as tie
+use Rattle.files.proofs.paths.is_same.Statement.{statement}
+use Rattle.files.proofs.paths.is_same.Tie as tie
 
 abbrev Inv-loop : tie.InvT-loop
-Inv-loop word name i₀ i = Unit {0}
+Inv-loop a b i₀ i = Unit {0}
 
 abbrev μ-loop : tie.MeasureT-loop
-μ-loop word name i₀ i = 6 - i
+μ-loop a b i₀ i = length a - i
 
 returns : tie.Need-returns Inv-loop μ-loop
 returns c = search needs
@@ -19,8 +20,8 @@ loop-holds c = search needs
 shared-slice-read-if2 : tie.Need-shared-slice-read-if2 Inv-loop μ-loop
 shared-slice-read-if2 c = search needs
 
-element-copy-out-if2 : tie.Need-element-copy-out-if2 Inv-loop μ-loop
-element-copy-out-if2 c = search needs
+shared-slice-read-if2-2 : tie.Need-shared-slice-read-if2-2 Inv-loop μ-loop
+shared-slice-read-if2-2 c = search needs
 
 returns-2 : tie.Need-returns-2 Inv-loop μ-loop
 returns-2 c = search needs
@@ -37,8 +38,8 @@ loop-again c = search needs
 returns-3 : tie.Need-returns-3 Inv-loop μ-loop
 returns-3 c = search needs
 
-pub is-asked-spec : {M : Type 1} → statement M
-is-asked-spec =
+pub is-same-spec : {M : Type 1} → statement M
+is-same-spec =
     tie.close
     (tie.spec
     Inv-loop
@@ -46,7 +47,7 @@ is-asked-spec =
     returns
     loop-holds
     shared-slice-read-if2
-    element-copy-out-if2
+    shared-slice-read-if2-2
     returns-2
     add-i
     loop-less

@@ -1,0 +1,39 @@
+-- `known_line` meets its contract: its parts one behind another are the line.
+use borrow.Author.Needs.{needs}
+use Rattle.answers.specs.Says.{knownLine}
+use Rattle.answers.proofs.Puts.{put-then, said}
+use Rattle.answers.proofs.known_line.Statement.{statement}
+use Rattle.answers.proofs.known_line.Tie as tie
+
+lent-requires : tie.Need-lent-requires
+lent-requires c κs = search needs
+
+answered-requires : tie.Need-answered-requires
+answered-requires c κs = search needs
+
+known-requires : tie.Need-known-requires
+known-requires c κs = search needs
+
+slice-aggregate-bytes : tie.Need-slice-aggregate-bytes
+slice-aggregate-bytes c = search needs
+
+bytes-requires : tie.Need-bytes-requires
+bytes-requires c κs = search needs
+
+returns : tie.Need-returns
+unfolding knownLine
+returns c =
+    let a : tie.After-answered = search (c) in
+    let k : tie.After-known = search (c) in
+    said (put-then (put-then (a .answered .ensures .0) (k .known .ensures .0)) (c .bytes .ensures))
+
+pub known-line-spec : {M : Type 1} → statement M
+known-line-spec =
+    tie.close
+    (tie.spec
+    lent-requires
+    answered-requires
+    known-requires
+    slice-aggregate-bytes
+    bytes-requires
+    returns)
