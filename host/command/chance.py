@@ -4,7 +4,7 @@ import model
 
 EDGES = [0, 1, 2, 15, 16, 31, 32, 255, 256, 511, 512, 65535, 65536, 2 ** 32, 2 ** 56 - 1, 2 ** 56, 2 ** 63, 2 ** 64 - 1]
 SCRAPS = [b"0", b"9", b"=", b"==", b" ", b"\t", b"\r", b"#", b"x", b"-1", b"\x00", b"\xff", b"\xc3\xa9", b"+",
-          b"18446744073709551615", b"18446744073709551616", b"99999999999999999999", b"000", b"commit", b"now 0"]
+          b"18446744073709551615", b"18446744073709551616", b"99999999999999999999", b"000", b"commit", b"now 0", b"known"]
 
 
 def value(chance):
@@ -58,10 +58,10 @@ def some_change(chance, store, most_snapshots=62):
 
 
 def some_read(chance, store):
-    kind = chance.choice(["read", "clock", "now", "standing"])
+    kind = chance.choice(list(model.READS))
     time = chance.choice((store.snapshots or [0]) + [store.horizon, store.horizon + 1])
     page = chance.randrange(model.PAGES)
-    return kind, {"read": (time, page), "clock": (time // 256, page), "now": (page,), "standing": ()}[kind]
+    return kind, {"read": (time, page), "clock": (time // 256, page), "now": (page,)}.get(kind, ())
 
 
 def edge(chance, store):

@@ -211,6 +211,13 @@ def standing(store):
     return DONE, 0, [len(store.pending), len(store.past), len(store.snapshots), len(store.copies), lag]
 
 
+def known(store):
+    return DONE, 0, [store.horizon, store.last] + store.snapshots
+
+
+READS = {"read": read, "clock": clock, "now": now, "standing": standing, "known": known}
+
+
 # ---- the journal ----
 
 def record(name, arguments):
@@ -251,31 +258,47 @@ def decode(body):
 
 def restart(data):
     """Code, number and store of a restart from these bytes."""
+    return walk(data)[:3]
+
+
+def walk(data):
+    """The same, and the records that it took: place, bytes with the length's own two, call."""
+    taken = []
     if len(data) > JOURNAL_ROOM:
-        return SHAPE, 0, Store()
+        return SHAPE, 0, Store(), taken
     if not data:
-        return DONE, 0, Store()
+        return DONE, 0, Store(), taken
     if data[0] != 1:
-        return VERSION, data[0], Store()
+        return VERSION, data[0], Store(), taken
     store, place = Store(), 1
     while len(data) - place >= 2:
         length = int.from_bytes(data[place:place + 2], "big")
         if not 2 <= length <= 170:
-            return MALFORMED, place, Store()
+            return MALFORMED, place, Store(), taken
         body = data[place + 2:place + 2 + length]
         if len(body) < length:
             break
         call = decode(body)
         if call is None:
-            return MALFORMED, place, Store()
+            return MALFORMED, place, Store(), taken
         code, rest = CHANGES[call[0]](store, *call[1])
         if code in (SHAPE, TWICE):
-            return MALFORMED, place, Store()
+            return MALFORMED, place, Store(), taken
         if code != DONE:
-            return CONTRADICTION, place, Store()
+            return CONTRADICTION, place, Store(), taken
         rest()
+        taken.append((place, 2 + length, call))
         place += 2 + length
-    return DONE, place, store
+    return DONE, place, store, taken
+
+
+def records(data):
+    """The lines that show a journal: each record that a restart takes, and where and why it ends."""
+    code, number, _, taken = walk(data)
+    lines = ["%s  # %d %d" % (line_of(*call), place, length) for place, length, call in taken]
+    if code != DONE:
+        return lines + ["# " + show(code, number)]
+    return lines + ["# %d end" % number if number == len(data) else "# %d torn, %d bytes" % (number, len(data) - number)]
 
 
 # ---- a line and its call ----
@@ -283,14 +306,21 @@ def restart(data):
 FORMS = {  # name: how many numbers, then what list
     b"commit": (1, "pairs"), b"gossip": (2, "numbers"), b"flush": (1, None), b"read": (2, None),
     b"clock": (2, None), b"now": (1, None), b"standing": (0, None), b"fresh": (0, None),
-    b"help": (0, None), b"cut": (1, None),
+    b"cut": (1, None), b"known": (0, None), b"quit": (0, None), b"exit": (0, None), b"help": (0, None),
 }
+TOPICS = (None, b"codes", b"standing")  # what help may be asked about
+MARK = b"\xef\xbb\xbf"  # the UTF-8 mark that some editors put in front of a text
 UNKNOWN, MISSING, DIGIT = "no such call", "a word is missing", "no digit"
 LARGE, EQUALS, EXTRA = "a number of 2^64 or more", "`=` is missing", "a word too many"
 
 
 class Fault(Exception):
     """What is wrong with a line, and the column, counted from 1."""
+
+    def told(self, line):
+        """The answer to the line of this number."""
+        what, column = self.args
+        return "? %s at line %d column %d" % (what, line, column) + "; help lists them" * (what == UNKNOWN)
 
 
 def words_of(line):
@@ -331,6 +361,10 @@ def parse(line):
         raise Fault(UNKNOWN, column)
     count, rest = FORMS[name]
     arguments = [number(*next(words, (b"", end))) for _ in range(count)]
+    if name == b"help":
+        topic, column = next(words, (None, None))
+        if topic not in TOPICS:
+            raise Fault(UNKNOWN, column)
     if rest is not None:
         one = pair if rest == "pairs" else number
         arguments.append([one(*word) for word in words])
@@ -340,6 +374,9 @@ def parse(line):
 
 
 # ---- the command: a line's answer, with the journal behind it ----
+
+END = "the end of the program"  # in the place of an answer to quit and exit
+
 
 def show(code, number, figures=()):
     return " ".join([str(code), str(number), NAMES[code]] + [str(figure) for figure in figures])
@@ -374,6 +411,8 @@ class Command:
 
     def call(self, name, arguments):
         """The answer's text; help has none that is settled."""
+        if name in ("quit", "exit"):
+            return END
         if name in CHANGES:
             return show(*self.change(name, arguments))
         if name == "fresh":
@@ -382,16 +421,18 @@ class Command:
         if name == "cut":
             self.__init__(self.journal[:arguments[0]])
             return show(self.code, self.place)
-        return show(*{"read": read, "clock": clock, "now": now, "standing": standing}[name](self.store, *arguments))
+        return show(*READS[name](self.store, *arguments))
 
-    def answer(self, line):
-        """The answer to a line of bytes without its newline, or None where it is passed over."""
+    def answer(self, line, at=1):
+        """The answer to a line of bytes without its newline, or None where it is passed over. The input's first line is at 1."""
         if len(line) > LONGEST_LINE:
-            return "? the line is longer than 1048576 bytes"
+            return "? line %d is longer than 1048576 bytes" % at
+        if at == 1 and line.startswith(MARK):
+            line = line[len(MARK):]
         try:
             call = parse(line)
         except Fault as fault:
-            return "? %s at column %d" % fault.args
+            return fault.told(at)
         return None if call is None else self.call(*call)
 
 

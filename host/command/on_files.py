@@ -8,8 +8,8 @@ import subprocess
 import chance as chances
 import model
 from bench import (
-    Skipped, a_journal, expect_held, expect_lines, expect_refused, expect_served, expect_stopped,
-    expect_unlocked, lines_in, lines_that_fill_a_journal, opened, test)
+    Skipped, a_journal, clear, expect_held, expect_lines, expect_refused, expect_same, expect_served, expect_stopped,
+    expect_unlocked, lines_in, lines_that_fill_a_journal, opened, picture, test)
 from running import Failed, contents, expect, put, shown
 
 NOBODY = 65534  # the user who owns nothing
@@ -22,10 +22,12 @@ def every_cut_of_a_journal(bench):
     kinds = {model.decode(body)[0] for body in bodies(whole)}
     expect(len(whole) > 300 and kinds == set(model.CHANGES), "the test's own journal is too small")
     for length in range(len(whole) + 1):
+        clear(bench.quick())
         put(bench.quick(), whole[:length])
         wanted = model.Command(whole[:length])
         try:
-            expect_held(bench, bench.quick(), wanted)
+            words = expect_held(bench, bench.quick(), wanted, bench.bare)
+            expect(not words, "standard error says", words)
         except Failed as why:
             raise Failed("cut at %d:" % length, why)
 
@@ -38,14 +40,15 @@ def bodies(data):
         place += 2 + length
 
 
-def expect_opened_as_judged(bench, path, data):
+def expect_opened_as_judged(bench, path, data, program=None):
     """Opens any bytes and holds what happens against the model's restart. Gives the code."""
+    clear(path)
     put(path, data)
     wanted = model.Command(data)
     if wanted.code == model.DONE:
-        expect_held(bench, path, wanted)
+        expect_held(bench, path, wanted, program)
     else:
-        expect_refused(bench, path, wanted.code, wanted.place)
+        expect_refused(bench, path, wanted.code, wanted.place, program)
     return wanted.code
 
 
@@ -56,7 +59,7 @@ def every_byte_of_a_journal_changed(bench):
         for mask in (1, 128, bench.chance.randrange(1, 256)):
             data = whole[:at] + bytes([whole[at] ^ mask]) + whole[at + 1:]
             try:
-                code = expect_opened_as_judged(bench, bench.quick(), data)
+                code = expect_opened_as_judged(bench, bench.quick(), data, bench.bare)
             except Failed as why:
                 raise Failed("byte %d xor %d:" % (at, mask), why)
             seen[code] = seen.get(code, 0) + 1
@@ -113,22 +116,26 @@ def a_file_that_may_not_grow(bench):
         put(bench.path(), before.journal)
         stamp = max(before.store.last, before.store.horizon)
         lines = [b"commit %d 3=%d" % (stamp + 1 + turn, turn) for turn in range(12)]
-        out, err = bench.program.run(b"\n".join(lines) + b"\n", bench.path(),
-                                     preexec_fn=limited_to(len(before.journal) + more))
+        out, err = bench.bare.run(b"\n".join(lines) + b"\n", bench.path(),
+                                  preexec_fn=limited_to(len(before.journal) + more))
         data = expect_stopped(bench, bench.path(), before, lines, out, err)
-        expect_held(bench, bench.path(), model.Command(data))
+        expect_held(bench, bench.path(), model.Command(data), bench.bare)
 
 
 @test
 def a_first_change_without_room(bench):
-    for size in range(0, 23):
+    """The lock has some 50 bytes: with room for fewer not even that is made."""
+    writes = [(slot, 1) for slot in range(model.MOST_WRITES)]
+    line = model.line_of("commit", (5, writes)).encode()
+    whole = b"\x01" + model.record("commit", (5, writes))
+    for size in [0, 1, 20, 40] + list(range(70, len(whole), 6)) + [len(whole) - 1]:
         path = bench.path("journal%d" % size)
-        out, err = bench.program.run(b"commit 5 3=1\nnow 0\n", path, preexec_fn=limited_to(size))
+        out, err = bench.bare.run(line + b"\nnow 0\n", path, preexec_fn=limited_to(size))
         expect(err, "no word on standard error with room for", size)
-        expect(b" 23 Done" not in out, "acknowledged with room for", size)
-        expect(contents(path) == (b"\x01" + model.record("commit", (5, [(3, 1)])))[:len(contents(path))], "other bytes")
+        expect(out == (opened(path, 0, 0) + "\n").encode() * (size >= 70), "with room for", size, "it says", shown(out), shown(err))
+        expect(contents(path) == whole[:len(contents(path))], "other bytes")
         expect_unlocked(path)
-        expect_held(bench, path, model.Command(contents(path)))
+        expect_held(bench, path, model.Command(contents(path)), bench.bare)
 
 
 def mounted(folder, size):
@@ -195,8 +202,9 @@ def folder_for(bench, name):
 def expect_no_way_in(bench, path, options, what):
     out, err = bench.program.run(b"standing\ncommit 18446744073709551615 0=1\nfresh\n", path, **options)
     expect(err, what, "is refused without a word; standard output:", shown(out))
-    expect(b"Done" not in out, what, "is served:", shown(out))
+    expect(out == b"", what, "is served:", shown(out))
     expect(not os.path.exists(path + ".old"), what, "was renamed")
+    return err
 
 
 @test
@@ -216,8 +224,11 @@ def a_folder_that_may_not_be_written(bench):
     options = as_nobody(bench)
     folder, path = folder_for(bench, "closed")
     os.chmod(folder, 0o555)
-    expect_no_way_in(bench, path, options, "a folder that may not be written")
-    expect_no_way_in(bench, os.path.join(folder, "other"), options, "a new file in a folder that may not be written")
+    for name, what in ((path, "a folder that may not be written"),
+                       (os.path.join(folder, "other"), "a new file in a folder that may not be written")):
+        err = expect_no_way_in(bench, name, options, what)
+        wanted = "%s: no lock can be made: %s.lock: Permission denied\n" % (name, name)
+        expect(err == wanted.encode(), "standard error says", shown(err), "and should say", wanted)
     expect(os.listdir(folder) == ["journal"], "the folder has", os.listdir(folder))
     os.chmod(folder, 0o755)
     expect_held(bench, path, a_journal(8))
@@ -225,12 +236,20 @@ def a_folder_that_may_not_be_written(bench):
 
 @test
 def a_path_that_is_no_file(bench):
+    """What is wrong is told by its name, nothing is made, and no lock is left."""
     os.mkdir(bench.path("folder"))
-    for path in (bench.path("folder"), bench.path("missing/journal"), bench.path("folder") + "/", bench.path("x" * 300)):
+    os.symlink("folder", bench.path("link"))
+    put(bench.path("file"), b"")
+    before = picture(bench.folder)
+    for name, word in (("folder", "it is a folder, not a journal"), ("link", "it is a folder, not a journal"),
+                       ("missing/journal", "its folder does not exist"), ("missing/deep/journal", "its folder does not exist"),
+                       ("folder/", None), ("missing/", None), ("file/journal", None), ("x" * 300, None), ("folder/..", None)):
+        path = bench.path(name)
         out, err = bench.program.run(b"commit 5 0=1\n", path)
-        expect(b"23 Done" not in out, shown(path), "is served:", shown(out))
-        expect(err, shown(path), "is refused without a word:", shown(out))
-    expect(os.listdir(bench.path("folder")) == [], "the folder has", os.listdir(bench.path("folder")))
+        expect(out == b"", shown(path), "is served:", shown(out))
+        expect(err.startswith(path.encode() + b": "), shown(path), "is refused with", shown(err))
+        expect(word is None or err == b"%s: %s\n" % (path.encode(), word.encode()), shown(path), "is refused with", shown(err))
+        expect_same(bench.folder, before)
     put(bench.path("folder/journal"), b"")
     expect_held(bench, bench.path("folder/journal"), model.Command())
 
@@ -274,13 +293,18 @@ def fresh_with_something_in_the_way(bench):
     put(path, before.journal)
     put(old, b"dear")
     out, _ = bench.program.run(b"fresh\nstanding\n", path)
-    expect(lines_in(out)[1].startswith("? "), "fresh is answered", lines_in(out)[1])
+    expect(lines_in(out)[1] == "? %s is in the way" % old, "fresh is answered", lines_in(out)[1])
     expect(lines_in(out)[2] == before.call("standing", ()), "fresh was done")
     expect(contents(old) == b"dear" and contents(path) == before.journal, "a file was changed")
     os.remove(old)
     os.mkdir(old)
     out, _ = bench.program.run(b"fresh\nstanding\n", path)
     expect(lines_in(out)[2:] == [before.call("standing", ())], "fresh was done over a folder", shown(out))
+    os.rmdir(old)
+    os.symlink("nowhere", old)
+    out, _ = bench.program.run(b"fresh\nstanding\n", path)
+    expect(lines_in(out)[2:] == [before.call("standing", ())], "fresh was done over a link", shown(out))
+    expect(os.readlink(old) == "nowhere" and not os.path.exists(bench.path("nowhere")), "the link was changed")
 
 
 @test
@@ -318,7 +342,7 @@ def a_last_line_without_its_end(bench):
         out, _ = bench.program.run(b"commit 5 0=1\n" + rest, path)
         got = lines_in(out)
         expect_lines(got[:2], [opened(path, 0, 0), "0 23 Done"])
-        expect(got[2:] == ["? the line has no end"], shown(rest), "is answered", shown(got[2:]))
+        expect(got[2:] == ["? line 2 has no end"], shown(rest), "is answered", shown(got[2:]))
         expect(len(contents(path)) == 23 and not os.path.exists(path + ".old"), shown(rest), "changed something")
         expect_unlocked(path)
 

@@ -1,7 +1,6 @@
 # Tests of lines and their answers: files of them, random ones, long ones, rubbish, the largest numbers.
 
 import os
-import re
 import time
 
 import chance as chances
@@ -38,15 +37,16 @@ def file_of_lines_on_a_journal(name):
 
 for each in call_files():
     TESTS.append(("lines of " + each, file_of_lines(each)))
-for each in ("refusals", "pending", "past", "snapshots", "archive"):
+for each in ("refusals", "pending", "past", "snapshots", "archive", "quit", "exit"):
     TESTS.append(("lines of %s on a journal" % each, file_of_lines_on_a_journal(each)))
 
 
 @test
 def crlf_lines(bench):
-    calls = contents(os.path.join(LINES, "night.calls.txt")).replace(b"\n", b"\r\n")
-    out, _ = bench.program.run(calls)
-    expect_lines(lines_in(out), lines_in(contents(os.path.join(LINES, "night.answers.txt"))))
+    for name in ("night", "known", "quit"):
+        calls = contents(os.path.join(LINES, name + ".calls.txt")).replace(b"\n", b"\r\n")
+        out, _ = bench.program.run(calls)
+        expect_lines(lines_in(out), lines_in(contents(os.path.join(LINES, name + ".answers.txt"))))
 
 
 def last_lines(command):
@@ -74,28 +74,6 @@ def a_journal_filled_to_its_last_byte(bench):
     expect_served(bench, lines, bench.path())
     expect_served(bench, [too_big] + refused + nothing + [b"standing", b"now 0"], bench.path())
     expect_served(bench, lines)
-
-
-@test
-def help_names_every_call(bench):
-    out, _ = bench.program.run(b"help\nstanding\n")
-    lines = lines_in(out)
-    expect(lines[-1] == "0 0 Done 0 0 0 0 0", "help changed something:", shown(lines[-1:]))
-    said = "\n".join(lines[:-1])
-    for name in ("commit", "gossip", "flush", "read", "clock", "now", "standing", "fresh", "help", "cut"):
-        expect(re.search(r"\b%s\b" % name, said), "help does not mention", name)
-
-
-@test
-def the_demo_shows_the_night(bench):
-    out, err = bench.program.run(b"", "--demo")
-    answers = [found.group(1) for found in re.finditer(r"^(\d+ \d+) [A-Z]", out.decode("latin-1"), re.MULTILINE)]
-    wanted = ["0 23", "5 100", "0 45", "0 73", "0 105", "14 0", "13 110", "0 77", "1 77", "0 97", "5 200", "6 200",
-              "7 105", "1 97", "0 23", "0 51", "0 120", "0 1", "0 0"]
-    for pair in wanted:
-        expect(pair in answers, "the demo does not show", pair, "in its turn")
-        answers = answers[answers.index(pair) + 1:]
-    expect(err == b"", "standard error is not empty:", shown(err))
 
 
 # ---- random lines against the model ----
@@ -170,9 +148,10 @@ def lines_of_a_megabyte(bench):
 @test
 def a_megabyte_without_its_end(bench):
     for length in (model.LONGEST_LINE, model.LONGEST_LINE + 1, 3 * model.LONGEST_LINE):
-        out, _ = bench.program.run(b"commit 5 0=1\n" + b"commit 6 0=2" + b" " * (length - 12), bench.path("journal%d" % length))
+        out, _ = bench.program.run(b"commit 5 0=1\n\n" + b"commit 6 0=2" + b" " * (length - 12), bench.path("journal%d" % length))
         got = lines_in(out)
-        expect(got[1] == "0 23 Done" and all(line.startswith("? ") for line in got[2:]) and len(got) == 3, "answers", shown(got))
+        last = "? line 3 has no end" if length == model.LONGEST_LINE else "? line 3 is longer than 1048576 bytes"
+        expect(got[1:] == ["0 23 Done", last], "answers", shown(got))
         expect(len(contents(bench.path("journal%d" % length))) == 23, "a line without its end changed something")
 
 

@@ -48,8 +48,8 @@ def on_a_terminal(bench):
     master, process = at_a_terminal(bench, path)
     said = until(master, b"> ")
     expect(said == opened(path, 0, 0).encode() + b"\r\n> ", "the terminal first shows", shown(said))
-    for line, answer in ((b"commit 100 0=7", b"0 23 Done"), (b"", b""), (b"nonsense", b"? no such call at column 1"),
-                         (b"now 0", b"0 0 Done 7" + b" 0" * 15)):
+    for line, answer in ((b"commit 100 0=7", b"0 23 Done"), (b"", b""), (b"now 0", b"0 0 Done 7" + b" 0" * 15),
+                         (b"nonsense", b"? no such call at line 4 column 1; help lists them")):
         os.write(master, line + b"\n")
         said = until(master, b"> ")
         expect(said == answer + b"\r\n" * bool(answer) + b"> ", shown(line), "is answered on a terminal with", shown(said))
@@ -74,17 +74,72 @@ def interrupted_on_a_terminal(bench):
 
 
 @test
+def quit_on_a_terminal(bench):
+    for word in (b"quit", b"exit"):
+        path = bench.path(word.decode())
+        master, process = at_a_terminal(bench, path)
+        until(master, b"> ")
+        os.write(master, b"commit 100 0=7\n")
+        until(master, b"> ")
+        os.write(master, word + b"\n")
+        process.wait(timeout=10)
+        os.close(master)
+        expect_unlocked(path)
+        expect_held(bench, path, model.Command(b"\x01" + model.record("commit", (100, [(0, 7)]))))
+
+
+@test
+def names_of_the_figures_on_a_terminal(bench):
+    """Behind standing's answer, where standard output is a terminal, whatever the input is."""
+    names = b"# pending, past, snapshots, copies, lag\r\n"
+    master, process = at_a_terminal(bench)
+    until(master, b"> ")
+    for line, answer in ((b"standing", b"0 0 Done 0 0 0 0 0\r\n" + names), (b"commit 300 0=7", b"0 23 Done\r\n"),
+                         (b" standing # now", b"0 0 Done 1 0 0 0 1\r\n" + names), (b"known", b"0 0 Done 0 300\r\n"),
+                         (b"standing 5", b"? a word too many at line 5 column 10\r\n")):
+        os.write(master, line + b"\n")
+        said = until(master, b"> ")
+        expect(said == answer + b"> ", shown(line), "is answered on a terminal with", shown(said))
+    os.write(master, b"quit\n")
+    process.wait(timeout=10)
+    os.close(master)
+    master, slave = pty.openpty()
+    process = bench.program.start(stdout=slave)
+    os.close(slave)
+    process.stdin.write(b"now 0\nstanding\n")
+    process.stdin.close()
+    said = until(master, names)
+    expect(said == b"0 0 Done" + b" 0" * 16 + b"\r\n0 0 Done 0 0 0 0 0\r\n" + names, "a terminal fed by a pipe shows", shown(said))
+    process.wait(timeout=10)
+    os.close(master)
+
+
+@test
+def no_names_of_the_figures_in_a_pipe(bench):
+    out, err = bench.program.run(b"standing\n")
+    expect((out, err) == (b"0 0 Done 0 0 0 0 0\n", b""), "said in a pipe:", shown(out), shown(err))
+    master, slave = pty.openpty()
+    process = bench.program.start(stdin=slave, stderr=slave)
+    os.close(slave)
+    os.write(master, b"standing\n\x04")
+    said, _ = process.communicate(timeout=10)
+    os.close(master)
+    expect(said.replace(b"> ", b"") == b"0 0 Done 0 0 0 0 0\n", "said in a pipe from a terminal:", shown(said))
+
+
+@test
 def ended_by_the_usual_signals(bench):
-    """The script execs the program, so a signal to the number we know reaches it."""
+    """The program itself; and the script, which passes them on."""
     for number in (signal.SIGTERM, signal.SIGINT, signal.SIGHUP):
-        path = bench.path("journal%d" % number)
-        talk = bench.program.talk(path)
-        talk.line()
-        expect(talk.ask("commit 100 0=7") == "0 23 Done", "not served")
-        talk.process.send_signal(number)
-        talk.process.wait(timeout=10)
-        talk.end()
-        expect_held(bench, path, model.Command(contents(path)))
+        for name, program in (("script", bench.program), ("bare", bench.bare)):
+            path = bench.path("%s%d" % (name, number))
+            talk = program.talk(path)
+            talk.line()
+            expect(talk.ask("commit 100 0=7") == "0 23 Done", "not served")
+            talk.process.send_signal(number)
+            talk.process.wait(timeout=10)
+            talk.end()
+            expect_held(bench, path, model.Command(contents(path)))
 
 
 @test

@@ -32,6 +32,13 @@ class Program:
     def __init__(self, path):
         self.path = os.path.abspath(path)
 
+    def bare(self):
+        """The program that the script starts, without the script: its number is the one we know. A path that is no script
+        is the program itself."""
+        built = os.path.join(os.path.dirname(os.path.realpath(self.path)), "target", "bin", "jibcradle")
+        with open(self.path, "rb") as file:
+            return Program(built) if file.read(2) == b"#!" and os.path.exists(built) else self
+
     def start(self, *arguments, **options):
         pipes = dict(stdin=subprocess.PIPE, stdout=subprocess.PIPE, stderr=subprocess.PIPE)
         pipes.update(options)
@@ -46,11 +53,12 @@ class Program:
             process.kill()
             out, err = process.communicate()
             raise Failed("the program did not end; it said", shown(out), shown(err))
-        expect(process.returncode >= 0, "the program died of signal", -process.returncode, shown(err))
+        expect(0 <= process.returncode < 128, "a signal ended the program; its status is", process.returncode, shown(err))
         return out, err
 
     def killed(self, data, delay, *arguments):
-        """Feeds the data, kills the program some seconds after its start, and gives standard output and error."""
+        """Feeds the data, kills what was started some seconds after its start, and gives standard output and error. A script's
+        program dies with it a moment later: both outputs end when it is dead."""
         process = self.start(*arguments)
         began = time.monotonic()
         try:
@@ -68,14 +76,27 @@ class Program:
 
 def drained(process):
     """What a killed program had said, whole."""
-    out, err = process.stdout.read(), process.stderr.read()
-    for pipe in (process.stdin, process.stdout, process.stderr):
-        try:
-            pipe.close()
-        except BrokenPipeError:
-            pass
-    process.wait()
-    return out, err
+    try:
+        return rest_of(process.stdout), rest_of(process.stderr)
+    finally:
+        for pipe in (process.stdin, process.stdout, process.stderr):
+            try:
+                pipe.close()
+            except BrokenPipeError:
+                pass
+        process.wait()
+
+
+def rest_of(pipe):
+    """All that comes until nobody has the other end of the pipe."""
+    said, until = b"", time.monotonic() + PATIENCE
+    while True:
+        ready, _, _ = select.select([pipe], [], [], max(0.0, until - time.monotonic()))
+        expect(ready, "a program outlives its kill; it said", shown(said))
+        more = os.read(pipe.fileno(), 65536)
+        if not more:
+            return said
+        said += more
 
 
 class Talk:

@@ -1,6 +1,7 @@
 # Tests of the command as a person uses it: lines in, answers out, killed at any moment and started again.
 # Run: python3 test_command.py [PROGRAM] [--kills N] [--seed N] [--only TEXT] [--times]
-# The program is the script two folders up where none is named. No test knows more of it than its lines and its files.
+# The program is the script two folders up where none is named. No test knows more of it than its lines and its files, and that a
+# script's program stands beside it, in target/bin: some tests start that one themselves.
 # A file of calls in lines/ can be tried by hand: jibcradle < NAME.calls.txt | diff - NAME.answers.txt
 
 import argparse
@@ -14,8 +15,13 @@ import time
 
 # each of these names its tests to the bench, in this order
 import on_lines
+import on_words
 import on_kills
 import on_files
+import on_tails
+import on_moves
+import on_fullness
+import on_records
 import on_locks
 import on_terminals
 import on_system_calls
