@@ -25,6 +25,8 @@ import on_records
 import on_locks
 import on_terminals
 import on_system_calls
+import on_scripts
+import on_builds
 from bench import TESTS, Bench, Skipped
 from running import Failed, Program
 

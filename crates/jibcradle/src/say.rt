@@ -60,7 +60,7 @@ pub fn standing(a: Answer, figures: Figures) -> bool {
     let mut line = [0u8; answers::ROOM];
     let n = answers::standing_line(a, figures, &mut line);
     let said = first(&line, n);
-    if a.code() == 0 && libc::isatty(STDOUT_FILENO) == 1 {
+    if said && a.code() == 0 && libc::isatty(STDOUT_FILENO) == 1 {
         return text(b"# pending, past, snapshots, copies, lag\n");
     }
     said
@@ -91,32 +91,23 @@ pub fn wrong(fault: Fault, number: u64, column: usize) -> bool {
 
 // `? line N`, and what is wrong with the whole of it.
 pub fn wrong_line(number: u64, what: &[u8]) -> bool {
-    text(b"? line ");
-    io::print_decimal(STDOUT_FILENO, number);
-    text(what)
+    text(b"? line ") && io::print_decimal(STDOUT_FILENO, number) && text(what)
 }
 
 // The first word is `opened ` or `refused `.
 pub fn opening(word: &[u8], path: &[u8], a: Answer) -> bool {
-    text(word);
-    text(path);
     let mut line = [0u8; answers::ROOM];
     let n = answers::opened_line(a, &mut line);
-    first(&line, n)
+    text(word) && text(path) && first(&line, n)
 }
 
 // `? `, a name and what is wrong with it.
 pub fn refused(name: &[u8], what: &[u8]) -> bool {
-    text(b"? ");
-    text(name);
-    text(what);
-    text(b"\n")
+    text(b"? ") && text(name) && text(what) && text(b"\n")
 }
 
 pub fn refused_beyond(used: u64) -> bool {
-    text(b"? the journal has ");
-    io::print_decimal(STDOUT_FILENO, used);
-    text(b" bytes\n")
+    text(b"? the journal has ") && io::print_decimal(STDOUT_FILENO, used) && text(b" bytes\n")
 }
 
 // ---- a journal's records, and how its walk ends

@@ -154,5 +154,5 @@ fn full_journal(chance: &mut Chance) -> (Start, Plan) {
     let side = journals::reach(&mood, room, 1200, chance);
     let start =
         Start { store: side.store, junk: chance.next(), journal: side.journal, place: side.place };
-    (start, Plan::Mood(Mood { weights: [0, 4, 30, 20, 10, 1, 1, 1, 1], ..mood }, 200))
+    (start, Plan::Mood(Mood { weights: [0, 4, 30, 20, 10, 1, 1, 1, 1, 1], ..mood }, 200))
 }
