@@ -97,6 +97,10 @@ def status_1_where_something_failed(bench):
     with open("/dev/full", "wb") as full:
         for arguments in ((), (path,), ("--records", path), ("--help",), ("--version",)):
             expect_status(bench, 1, b"now 0\n", *arguments, stdout=full)
+        # a word for the first that can't be said, and no more
+        for lines in (b"help\nnow 0\n", b"help codes\n", b"x\nx\n", b"no end", b"x" * 1048577):
+            _, err = expect_status(bench, 1, lines, stdout=full)
+            expect(err.count(b"\n") == 1 and err.startswith(b"standard output: "), shown(lines), "is followed by", shown(err))
     for number, word in ((0, b"standard input: Bad file descriptor\n"), (1, b"standard output: Bad file descriptor\n"), (2, b"")):
         out, err = expect_status(bench, 1, None, path, stdin=subprocess.DEVNULL, preexec_fn=lambda: os.close(number))
         expect((out, err) == (b"", word), "with descriptor", number, "closed", shown(out), shown(err))

@@ -147,6 +147,22 @@ fn begun(input: Input, kept: usize, passing: bool) -> Input
     }
 }
 
+// No more is read: at the end of the input, or where something failed.
+fn ended(input: Input, failed: bool) -> Input
+    ensures { λ r. ⌜ (r .start ≡ 0) × (r .seen ≡ 0) × (r .end ≡ 0) ⌝ }
+{
+    Input {
+        source: input.source,
+        start: 0,
+        seen: 0,
+        end: 0,
+        line: input.line,
+        passing: false,
+        going: false,
+        failed,
+    }
+}
+
 // Makes room behind the beginning of a line. One that fills the buffer is too long.
 fn moved(buffer: &mut [u8], input: Input) -> Input
     requires { ⌜ Within input (length (now buffer)) ⌝ }
@@ -160,27 +176,21 @@ fn moved(buffer: &mut [u8], input: Input) -> Input
     if kept < buffer.len() {
         return begun(input, kept, false);
     }
-    say::wrong_line(input.line, b" is longer than 1048576 bytes\n");
-    begun(input, 0, true)
+    if say::wrong_line(input.line, b" is longer than 1048576 bytes\n") {
+        return begun(input, 0, true);
+    }
+    ended(input, true)
 }
 
 // A line that was begun and has no end may be half of a call.
-fn over(input: Input, failed: bool) -> Input
+fn over(input: Input) -> Input
     ensures { λ r. ⌜ (r .start ≡ 0) × (r .seen ≡ 0) × (r .end ≡ 0) ⌝ }
 {
     if 0 < input.end && !input.passing {
-        say::wrong_line(input.line, b" has no end\n");
+        let said = say::wrong_line(input.line, b" has no end\n");
+        return ended(input, !said);
     }
-    Input {
-        source: input.source,
-        start: 0,
-        seen: 0,
-        end: 0,
-        line: input.line,
-        passing: false,
-        going: false,
-        failed,
-    }
+    ended(input, false)
 }
 
 fn prompt(input: Input) {
@@ -195,7 +205,7 @@ fn read(buffer: &mut [u8], input: Input) -> Input
     ensures { λ r. ⌜ Within r (length (now (buffer .exit))) ⌝ }
 {
     if input.source < 0 {
-        return over(input, false);
+        return over(input);
     }
     prompt(input);
     let end = input.end;
@@ -205,10 +215,10 @@ fn read(buffer: &mut [u8], input: Input) -> Input
     }
     if got < 0 {
         os::fail(b"standard input");
-        return over(input, true);
+        return ended(input, true);
     }
     if got == 0 {
-        return over(input, false);
+        return over(input);
     }
     let n = io::count(got, &buffer[end..]);
     Input {
@@ -234,6 +244,13 @@ pub fn take(buffer: &mut [u8], input: Input) -> Taken
         return line_to(buffer, input, at);
     }
     let left = moved(buffer, input);
+    if !left.going {
+        return Taken {
+            input: left,
+            from: 0,
+            to: 0,
+        };
+    }
     let more = read(buffer, left);
     Taken {
         input: more,

@@ -2,7 +2,20 @@
 
 use crate::{Refusal, SLOTS, SNAPSHOTS};
 
-/// What a change, a fresh start or a restart answers, as the library hands it back.
+/// What a change, a fresh start or a restart answers, as the library hands it back. It has to be
+/// looked at, or passed over by name:
+///
+/// ```
+/// #![deny(unused_must_use)]
+/// let mut store = jibcradle::Store::fresh();
+/// let _ = store.flush(&mut [0; 64], 0, 0);
+/// ```
+///
+/// ```compile_fail
+/// #![deny(unused_must_use)]
+/// let mut store = jibcradle::Store::fresh();
+/// store.flush(&mut [0; 64], 0, 0);
+/// ```
 #[repr(C)]
 #[derive(Clone, Copy, Debug, Default, PartialEq, Eq)]
 #[must_use = "the call may have been refused, and the next one needs the place"]
