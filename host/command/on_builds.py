@@ -221,7 +221,7 @@ def words_that_build_nothing(bench):
         expect(got == status, words, "gives status", got, shown(out), shown(err))
     expect(repository.builds() == 0 and not os.path.exists(repository.file("target")), "something was built")
     got, out, _ = repository.run(b"", "--help")
-    texts = re.findall(r'text\(b"(.*)\\n"\)', contents(repository.file("crates/jibcradle/src/help.rt")).decode())
+    texts = re.findall(r'b"(.*)\\n"', contents(repository.file("crates/jibcradle/src/help.rt")).decode())
     expect(out.startswith(USAGE) and len(out.split(b"\n")) > 10, "--help says", shown(out))
     expect(set(out.decode().split("\n")[1:-1]) <= set(texts), "--help says", shown(out))
 
