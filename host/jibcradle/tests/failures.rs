@@ -6,7 +6,7 @@ mod common;
 use common::{arguments, behind, journal_of_child, next_call, night, Scratch, JOURNAL};
 use jibcradle::{Catalogue, Error};
 use std::fs;
-use std::path::Path;
+use std::path::{Path, PathBuf};
 use std::process::{Command, Output};
 
 /// The child whose writes or syncs fail at some time: it makes the run's calls until one isn't
@@ -94,7 +94,7 @@ fn limited(blocks: usize, path: &Path) -> String {
 const TOO_BIG: &str = "27";
 
 #[test]
-fn a_full_disk() {
+fn a_file_that_may_not_grow() {
     let scratch = Scratch::new("full");
     for blocks in 1..10 {
         let path = scratch.path(&format!("journal-{blocks}"));
@@ -106,6 +106,55 @@ fn a_full_disk() {
         assert!(length <= blocks * 512 && length + 200 > blocks * 512, "{length} of {blocks}");
         expect_held(&path, length);
     }
+}
+
+/// A small disk in memory, there as long as this value.
+struct Disk {
+    folder: PathBuf,
+}
+
+impl Disk {
+    /// A disk of so many pages of 4096 bytes; none where mounting one isn't permitted.
+    fn mounted(folder: PathBuf, pages: usize) -> Option<Disk> {
+        fs::create_dir(&folder).unwrap();
+        let disk = Disk { folder };
+        disk.mount("rw", pages).then_some(disk)
+    }
+
+    fn mount(&self, how: &str, pages: usize) -> bool {
+        let how = format!("{how},size={}", pages * 4096);
+        let mut command = Command::new("mount");
+        command.args(["-t", "tmpfs", "-o", &how, "none"]).arg(&self.folder);
+        command.output().is_ok_and(|done| done.status.success())
+    }
+}
+
+impl Drop for Disk {
+    fn drop(&mut self) {
+        let _ = Command::new("umount").arg(&self.folder).output();
+    }
+}
+
+const NO_ROOM: &str = "28";
+
+#[test]
+fn a_full_disk() {
+    let scratch = Scratch::new("disk");
+    let Some(disk) = Disk::mounted(scratch.path("disk"), 4) else {
+        eprintln!("skipped: mounting a small disk isn't permitted here");
+        return;
+    };
+    let path = disk.folder.join("journal");
+    let out = failing("env", &[], &path);
+    let said = String::from_utf8_lossy(&out.stdout).into_owned();
+    assert!(out.status.success(), "{said}{}", String::from_utf8_lossy(&out.stderr));
+    let (error, length) = word(&said, "failed: ").split_once(" at ").unwrap();
+    let length: usize = length.parse().unwrap();
+    assert_eq!(error, NO_ROOM);
+    // The lock has one page, the journal the others; the first record that didn't fit was the last.
+    assert!(length <= 3 * 4096 && length + 200 > 3 * 4096, "{length}");
+    assert!(disk.mount("remount", 16), "room can't be made");
+    expect_held(&path, length);
 }
 
 #[test]
