@@ -34,3 +34,9 @@ pub mod Runs
 pub mod Recorded
 pub mod Demands
 pub mod StandIns
+pub mod Ranges
+pub mod Coordinators
+pub mod Heard
+pub mod Worlds
+pub mod Coordinated
+pub mod Meeting

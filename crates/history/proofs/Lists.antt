@@ -35,6 +35,10 @@ module _ {A : Type 0} where
   all-part P [] m h = tt
   all-part P (x ∷ xs) m h = (h .0, all-part P xs m (h .1))
 
+  pub all-rest : (P : A → Type 0) (l m : List A) → All P (l ++ m) → All P m
+  all-rest P [] m h = h
+  all-rest P (x ∷ xs) m h = all-rest P xs m (h .1)
+
   pub all-take : (P : A → Type 0) (i : ℕ) (l : List A) → All P l → All P (take i l)
   all-take P zero l h = tt
   all-take P (suc i) [] h = tt

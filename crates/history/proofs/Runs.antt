@@ -71,7 +71,7 @@ grown m h c a f w g =
       most = omega (arith, g .room, g .most);
     }
 
-call-faithful : (m : Machine) (h : List Change) (good : Bool) (c : Change) → Faithful m h → Words c
+pub call-faithful : (m : Machine) (h : List Change) (good : Bool) (c : Change) → Faithful m h → Words c
     → Faithful (left (change (m .store) (m .journal) (m .place) good c)) (added (change (m .store) (m .journal) (m .place) good c) c h)
 call-faithful m h good c f w =
     change-cases (m .store) (m .journal) (m .place) c (λ o. Faithful (left o) (added o c h)) good (λ g. grown m h c _ f w g)
@@ -129,7 +129,7 @@ module _ (m : Machine) (h : List Change) (f : Faithful m h) where
       (omega (arith, length-take (suc n) (used m), size-used, f .most)))
 
 -- ---- any event, any run
-event-faithful : (m : Machine) (h : List Change) (e : Event) → Faithful m h → Typed e → Faithful (happens m e) (acceptedBy m h e)
+pub event-faithful : (m : Machine) (h : List Change) (e : Event) → Faithful m h → Typed e → Faithful (happens m e) (acceptedBy m h e)
 unfolding freshStart
 event-faithful m h (callCommit t os vs) f y = call-faithful m h _ (commit t (paired os vs)) f (y .0, paired-below (2 ^ 64) os vs (y .1))
 event-faithful m h (callGossip prev curr stamps) f y = call-faithful m h true (gossip prev curr stamps) f y

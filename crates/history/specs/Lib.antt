@@ -3,3 +3,4 @@ pub mod History
 pub mod Runs
 pub mod Demands
 pub mod StandIns
+pub mod Worlds

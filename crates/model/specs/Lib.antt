@@ -11,3 +11,6 @@ pub mod Records
 pub mod Calls
 pub mod Restart
 pub mod Night
+pub mod Coordinator
+pub mod Exchange
+pub mod CoordinatorBytes
