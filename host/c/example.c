@@ -1,4 +1,5 @@
-/* The first items of the scope document's worked night, through the C header. At this folder, once
+/* The first items of the scope document's worked night, and then a coordinator that tells the store
+ * of a snapshot, through the C header. At this folder, once
  * `rt staticlib repository` has built the library; the program goes to `target` too:
  *
  *     cc -std=c99 -Wall example.c ../../target/staticlib/librepository.a -o ../../target/example
@@ -10,6 +11,7 @@
 #include <stdio.h>
 
 static jibcradle_store store;
+static jibcradle_coordinator coordinator;
 static uint8_t journal[4096];
 
 /* Prints what a change answered, and hands its place on. */
@@ -18,6 +20,20 @@ static size_t tell(const char *call, jibcradle_moved moved)
     printf("%-26s code %2" PRIu64 ", number %3" PRIu64 ", place %3zu: %s\n", call, moved.code,
            moved.number, moved.place, jibcradle_code_name(moved.code));
     return moved.place;
+}
+
+/* Prints what a coordinator, or a request, was answered, and hands its number on. */
+static size_t told(const char *call, jibcradle_reply reply)
+{
+    printf("%-26s code %2" PRIu64 ", number %3" PRIu64 ": %s\n", call, reply.code, reply.number,
+           jibcradle_code_name(reply.code));
+    return (size_t)reply.number;
+}
+
+/* Hears a message. */
+static size_t hear(const char *call, size_t used, const uint8_t *message, size_t length)
+{
+    return tell(call, jibcradle_hear(&store, journal, sizeof journal, used, message, length));
 }
 
 /* Commits one object. */
@@ -73,6 +89,31 @@ static void know(void)
     printf("\n");
 }
 
+/* A snapshot is granted and told of. The first message is lost, so that the second leaves a gap, and
+ * the store asks for what it missed. */
+static void coordinate(void)
+{
+    uint8_t message[JIBCRADLE_MESSAGE];
+    uint8_t request[JIBCRADLE_REQUEST];
+    size_t length;
+    size_t used = tell("fresh", jibcradle_fresh(&store));
+
+    told("a fresh coordinator", jibcradle_coordinator_fresh(&coordinator));
+    told("grant tick 1, node 5", jibcradle_grant(&coordinator, 1, 5));
+    told("message 0 to 300, lost", jibcradle_message(&coordinator, 0, 300, message, sizeof message));
+    told("grant the same again", jibcradle_grant(&coordinator, 1, 5));
+    length = told("message 300 to 600", jibcradle_message(&coordinator, 300, 600, message,
+                                                          sizeof message));
+    used = hear("hear it", used, message, length);
+    told("ask up to 600", jibcradle_ask(&store, 600, request, sizeof request));
+    length = told("serve the request", jibcradle_serve(&coordinator, request, sizeof request,
+                                                       message, sizeof message));
+    used = hear("hear the reply", used, message, length);
+    used = hear("hear it again", used, message, length);
+    know();
+    dump(used);
+}
+
 int main(void)
 {
     const uint64_t snapshot = 105;
@@ -93,5 +134,6 @@ int main(void)
     know();
     tell("restart", jibcradle_restart(&store, journal, used));
     show(107, 0);
+    coordinate();
     return 0;
 }

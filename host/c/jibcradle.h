@@ -1,4 +1,5 @@
-/* The proved store, for C and C++: one struct that holds the whole store, and ten calls on it.
+/* The proved store, for C and C++: one struct that holds the whole store, and twelve calls on it;
+ * and the coordinator that tells the stores of snapshots, a struct and six calls.
  *
  * Link with librepository.a, which `rt staticlib repository` writes at the repository's top to
  * target/staticlib. x86-64 Linux.
@@ -34,20 +35,25 @@ enum {
     JIBCRADLE_PAST = 256,
     JIBCRADLE_SNAPSHOTS = 64,
     JIBCRADLE_COPIES = 128,
-    JIBCRADLE_JOURNAL = 65535 /* longest journal, in bytes */
+    JIBCRADLE_JOURNAL = 65535, /* longest journal, in bytes */
+    JIBCRADLE_GRANTED = 64,   /* most snapshots of a coordinator */
+    JIBCRADLE_MESSAGE = 148,  /* longest message, in bytes */
+    JIBCRADLE_REQUEST = 19,   /* a request, in bytes */
+    JIBCRADLE_KEPT = 522      /* longest coordinator kept as bytes */
 };
 
 /* The codes. Those from JIBCRADLE_DAMAGED up are refusals: nothing has changed, but that a refused
  * restart leaves a fresh store. In brackets the number that comes with each; 0 where none is. */
 enum {
     JIBCRADLE_DONE = 0,             /* [changes and restart: the journal's new used length;
-                                       snapshot and clock read: the snapshot's stamp] */
+                                       snapshot and clock read: the snapshot's stamp; a grant: its
+                                       stamp; what writes bytes: how many] */
     JIBCRADLE_NOTHING = 1,          /* there was nothing to do [used length] */
     JIBCRADLE_DAMAGED = 2,          /* the tables aren't those of a store */
     JIBCRADLE_SHAPE = 3,            /* an argument is out of range */
     JIBCRADLE_TWICE = 4,            /* a commit names one object twice */
-    JIBCRADLE_LATE = 5,             /* a commit isn't after the last commit and the horizon
-                                       [the larger of the two] */
+    JIBCRADLE_LATE = 5,             /* a commit isn't after the last commit and the horizon, a
+                                       grant not after all granted and sent [the largest] */
     JIBCRADLE_GAP = 6,              /* a message starts beyond the horizon [horizon] */
     JIBCRADLE_CONFLICT = 7,         /* a message disagrees with the known snapshots
                                        [the smallest differing stamp] */
@@ -59,7 +65,8 @@ enum {
     JIBCRADLE_AHEAD = 13,           /* the time read lies beyond the horizon [horizon] */
     JIBCRADLE_NO_SNAPSHOT = 14,     /* no known snapshot at or before the time read */
     JIBCRADLE_VERSION = 15,         /* the journal has another version [the byte found] */
-    JIBCRADLE_MALFORMED = 16,       /* a record isn't well formed [offset of its length] */
+    JIBCRADLE_MALFORMED = 16,       /* a record isn't well formed [offset of its length], or a
+                                       field of a kept coordinator [its offset] */
     JIBCRADLE_CONTRADICTION = 17    /* a record isn't one that the rebuilt store would have
                                        written [offset of its length] */
 };
@@ -135,6 +142,14 @@ typedef struct {
     jibcradle_heads heads;
 } jibcradle_store;
 
+/* A coordinator, 528 bytes: the snapshots that it has granted, of which the first `count` are
+ * contents, and the largest curr that it has sent. */
+typedef struct {
+    uint64_t count;
+    uint64_t sent;
+    uint64_t granted[JIBCRADLE_GRANTED]; /* strictly ascending */
+} jibcradle_coordinator;
+
 /* What a change, a fresh start or a restart answers. */
 typedef struct {
     uint64_t code;
@@ -142,7 +157,7 @@ typedef struct {
     size_t place; /* the used length to give to the next call */
 } jibcradle_moved;
 
-/* What a read answers. */
+/* What a read answers, and each call of a coordinator. */
 typedef struct {
     uint64_t code;
     uint64_t number;
@@ -187,6 +202,9 @@ JIBCRADLE_LAID(store_snapshots, offsetof(jibcradle_store, snapshots) == 20480);
 JIBCRADLE_LAID(store_copies, offsetof(jibcradle_store, copies) == 20992);
 JIBCRADLE_LAID(store_copied, offsetof(jibcradle_store, copied) == 23040);
 JIBCRADLE_LAID(store_heads, offsetof(jibcradle_store, heads) == 39424);
+JIBCRADLE_LAID(coordinator, sizeof(jibcradle_coordinator) == 528);
+JIBCRADLE_LAID(coordinator_sent, offsetof(jibcradle_coordinator, sent) == 8);
+JIBCRADLE_LAID(coordinator_granted, offsetof(jibcradle_coordinator, granted) == 16);
 JIBCRADLE_LAID(moved, sizeof(jibcradle_moved) == 24);
 JIBCRADLE_LAID(moved_number, offsetof(jibcradle_moved, number) == 8);
 JIBCRADLE_LAID(moved_place, offsetof(jibcradle_moved, place) == 16);
@@ -243,6 +261,47 @@ jibcradle_report jibcradle_standing(const jibcradle_store *store);
 
 /* Tells the horizon, the last commit and all known snapshots. */
 jibcradle_knowledge jibcradle_known(const jibcradle_store *store);
+
+/* Takes in a message as a coordinator wrote it, as gossip takes its numbers. Bytes that aren't
+ * exactly one message are malformed. Writes the record to the journal. */
+jibcradle_moved jibcradle_hear(jibcradle_store *store, uint8_t *journal, size_t length, size_t used,
+                               const uint8_t *message, size_t message_length);
+
+/* After a gap: writes the request for all snapshots from the horizon up to `to`, which is the
+ * refused message's curr and has to be at or beyond the horizon, to the front of the buffer, whose
+ * length has to be 19 or more. The number is 19. */
+jibcradle_reply jibcradle_ask(const jibcradle_store *store, uint64_t to, uint8_t *buffer,
+                              size_t length);
+
+/* Makes this a fresh coordinator, whatever its bytes were. All stores that hear of snapshots hear
+ * of one coordinator: one that is made anew knows nothing of what another has granted. */
+jibcradle_reply jibcradle_coordinator_fresh(jibcradle_coordinator *coordinator);
+
+/* Grants the snapshot of stamp 256 x tick + node, which is the number, if it lies beyond every
+ * stamp granted and every curr sent. A tick is at most 2^56 - 1, a node at most 255. */
+jibcradle_reply jibcradle_grant(jibcradle_coordinator *coordinator, uint64_t tick, uint64_t node);
+
+/* Writes the message with all granted snapshots after prev up to the stamp `clock`, or the first
+ * sixteen of them, to the front of the buffer, whose length has to be 148 or more. The number is
+ * the message's length. No later grant lies within what it told. */
+jibcradle_reply jibcradle_message(jibcradle_coordinator *coordinator, uint64_t prev, uint64_t clock,
+                                  uint8_t *buffer, size_t length);
+
+/* Writes the message that a request asks for, as above. Bytes that aren't exactly one request are
+ * malformed. */
+jibcradle_reply jibcradle_serve(jibcradle_coordinator *coordinator, const uint8_t *request,
+                                size_t request_length, uint8_t *buffer, size_t length);
+
+/* Writes the coordinator as bytes to the front of the buffer, whose length has to be 522 or more.
+ * The number is how many they are. They have to last before anybody is told of a grant or given a
+ * message: see jibcradle_coordinator_restart. */
+jibcradle_reply jibcradle_coordinator_keep(const jibcradle_coordinator *coordinator,
+                                           uint8_t *buffer, size_t length);
+
+/* Makes this the coordinator that was kept in the bytes; none at all are a fresh one. The number is
+ * their length. Refused, it leaves a fresh coordinator. */
+jibcradle_reply jibcradle_coordinator_restart(jibcradle_coordinator *coordinator,
+                                              const uint8_t *bytes, size_t length);
 
 #ifdef __cplusplus
 }

@@ -4,8 +4,8 @@ use mathlib.Core.Path.{_≡_, refl, ap, sym, _∙_, subst}
 use mathlib.Core.List.{List, [], _∷_, _++_, append-assoc, append-nil}
 use native.Mathlib.Nat.{pow-suc, mul-assoc, add-zero, zero-add, pow-le-pow-right}
 use native.Mathlib.Omega.{arith}
-use lib.ListN.{length, take, drop, length-append, length-take}
-use lib.Seq.{length-take-le}
+use lib.ListN.{length, take, drop, length-append, length-take, length-drop, take-append-drop}
+use lib.Seq.{length-take-le, drop-drop}
 use lib.Dec.{lit<}
 use Rattle.model.specs.Bytes.{be, fromBeAfter, fromBe, column}
 use Rattle.history.specs.Words.{Below, Bytes}
@@ -66,6 +66,12 @@ back bs h = rw zero-add at (back-after 0 0 bs h)
 pub back-take : (w : ℕ) (bs : List ℕ) → Bytes bs → w ≤ length bs → be w (fromBe (take w bs)) ≡ take w bs
 back-take w bs h l =
     subst (λ (n : ℕ). be n (fromBe (take w bs)) ≡ take w bs) (length-take-le w bs l) (back (take w bs) (below-take 256 w bs h))
+
+-- a number that stands at i, and what is behind it
+pub field : (w i x : ℕ) (bs : List ℕ) → Bytes bs → i + w ≤ length bs → fromBe (take w (drop i bs)) ≡ x → be w x ++ drop (i + w) bs ≡ drop i bs
+field w i x bs h l e =
+    let n = ap (be w) (sym e) ∙ back-take w (drop i bs) (below-drop 256 i bs h) (simp length-drop (omega arith)) in
+    (λ j. n j ++ sym (drop-drop w i bs) j) ∙ take-append-drop w (drop i bs)
 
 bound-after : (k a : ℕ) (bs : List ℕ) → Bytes bs → a < 256 ^ k → fromBeAfter a bs < 256 ^ (k + length bs)
 bound-after k a [] h l = rw add-zero l

@@ -1,36 +1,37 @@
 -- Document 02, request [1]: the theorem of the coordinator's end.
-use Prim.Native.Nat.{ℕ, _+_, _^_, max, _≤_, _<_}
+use Prim.Native.Nat.{ℕ, _^_, max, _≤_, _<_}
 use mathlib.Core.Path.{_≡_, refl, ap, sym, _∙_, subst}
 use mathlib.Core.Bool.{true, false}
 use mathlib.Core.List.{List, [], _∷_, _++_, append-nil, append-assoc}
 use native.Mathlib.Omega.{arith}
-use lib.ListN.{length, take, getD}
-use lib.Dec.{leb, eqb}
+use lib.ListN.{length, take, getD, List·getD-eq-default}
+use lib.Dec.{ltb, leb, eqb}
 use borrow.Author.Tests.{le-leb}
 use Rattle.model.specs.declared.Answer.{Answer}
-use Rattle.model.specs.declared.Answer.the-variants.{Done}
 use Rattle.model.specs.Lists.{both, elemB}
 use Rattle.model.specs.Answers.{codeOf, numberOf, isDone}
 use Rattle.model.specs.Store.{Store}
 use Rattle.model.specs.Damage.{damaged}
-use Rattle.model.specs.Changes.{gossip}
+use Rattle.model.specs.Changes.{Change, commit, gossip, flush}
 use Rattle.model.specs.Records.{encode, stepOn}
+use Rattle.model.specs.Calls.{Outcome}
 use Rattle.model.specs.Limits.{mostJournal}
 use Rattle.model.specs.Coordinator.{Coordinator, top, coordinatorDamaged, stampOf, grantShaped, grantAnswer, granting, grant, stampsIn, currOf, messageFor, messageAnswer, Messaged, messaged, message}
+use Rattle.model.specs.CoordinatorBytes.{keepCoordinator}
 use Rattle.model.specs.Exchange.{ask, Requested, noRequest, request, requestIn, served, serve, hear}
 use Rattle.history.specs.Words.{All}
 use Rattle.history.specs.Runs.{Machine, Event, callGossip, callRead, left, happens, run, Typed, AllTyped}
 use Rattle.history.specs.Demands.{NotDamaged, DemandTwo, DemandThree}
 use Rattle.history.proofs.Recorded.{demand-two}
 use Rattle.history.proofs.Demands.{demand-three}
-use Rattle.history.specs.Worlds.{Sound, World, begin, Act, grants, writes, asks, serves, hears, does, sending, hearing, acts, course, ActTyped, InEveryWorld, replyTo, Closes, RunsAlone, Message, Coordinated}
+use Rattle.history.specs.Worlds.{Sound, World, begin, Act, grants, writes, asks, serves, hears, does, startsAgain, sending, hearing, acts, course, ActTyped, InEveryWorld, Answered, Asks, replyTo, Closes, Idles, RunsAlone, Message, Coordinated}
 use Rattle.history.proofs.Laws.{by-test, never, by-le, either-right, pick-all}
 use Rattle.history.proofs.Lists.{all-map, all-part, all-rest, all-getD}
 use Rattle.history.proofs.Encoding.{encode-same}
 use Rattle.history.proofs.Kept.{never-damaged}
-use Rattle.history.proofs.Coordinators.{Sane, undamaged-coordinator, Spoken, spoken-formed, spoken-words, spoken-back, chosen, chosen-beyond, written-message, message-done, request-back}
-use Rattle.history.proofs.Worlds.{Written, Asked, Good, good-begin, front-message, front-request, serve-is, good-serve, good-act, good-course, good}
-use Rattle.history.proofs.Heard.{Knows, knows, hear-is, heard, heard-overlong, answered-codes, news-codes}
+use Rattle.history.proofs.Coordinators.{Sane, undamaged-coordinator, Spoken, spoken-formed, spoken-words, spoken-back, chosen, chosen-beyond, chosen-within, written-message, message-done, request-back}
+use Rattle.history.proofs.Worlds.{Written, Asked, Good, good-begin, front-message, front-request, serve-is, good-serve, same-again, good-act, good-course, good}
+use Rattle.history.proofs.Heard.{Knows, knows, hear-is, heard-stays, heard, heard-overlong, answered-codes, news-codes, gap-behind}
 
 -- ---- a, b: a message in a good world
 more-codes : (c : ℕ) → elemB c (0 ∷ 1 ∷ 6 ∷ 12 ∷ []) ≡ true → elemB c (0 ∷ 1 ∷ 3 ∷ 6 ∷ 12 ∷ []) ≡ true
@@ -38,10 +39,9 @@ more-codes c e =
     by-test (eqb 0 c) (λ q. rw q)
     (λ q. by-test (eqb 1 c) (λ r. rw (q, r)) (λ r. rw (q, r) (either-right (eqb 3 c) (rw (q, r) at e))))
 
-asks-gap : (st : Store) (to : ℕ) (buffer : List ℕ) → damaged st ≡ false → st .horizon < to → to < 2 ^ 64 → 19 ≤ length buffer
-    → (ask st to buffer .answer ≡ Done 19) × (st .horizon < to) × (requestIn (take 19 (ask st to buffer .buffer)) ≡ request (st .horizon) to)
+asks-gap : (st : Store) (to : ℕ) → damaged st ≡ false → st .horizon < to → to < 2 ^ 64 → Asks st to
 unfolding ask
-asks-gap st to buffer d l b r =
+asks-gap st to d l b buffer r =
     rw (d, le-leb 19 (length buffer) r, le-leb (st .horizon) to (omega arith))
     (refl, l, ap requestIn (front-request (st .horizon) to buffer r) ∙ request-back (st .horizon) to (omega arith) b)
 
@@ -65,6 +65,9 @@ module _ (w : World) (h : Good w) where
         let answers = heard g n (h .sane) prev curr ss s m knows-granted undamaged-store (h .faithful .within) in
         let over = heard-overlong g n (h .sane) prev curr ss s m knows-granted undamaged-store (h .faithful .within) in
         let In : Answer → Type 0 = λ a. elemB (codeOf a) (0 ∷ 1 ∷ 3 ∷ 6 ∷ 12 ∷ []) ≡ true in
+        let is = hear-is g n (h .sane) prev curr ss s (m .store) (m .journal) (m .place) in
+        let asks : m .store .horizon < prev → Asks (m .store) curr =
+        λ l. asks-gap (m .store) curr undamaged-store (omega (arith, s .ordered)) (s .word) in
         record {
           prev = prev;
           curr = curr;
@@ -76,7 +79,13 @@ module _ (w : World) (h : Good w) where
               by-le (length (m .journal)) mostJournal (λ l. more-codes (codeOf a) (answered-codes m prev curr ss a (answers l)))
               (λ l. subst In (sym (over l)) refl);
           codes-shaped = λ l. answered-codes m prev curr ss a (answers l);
-          asks-for = λ buffer r l. asks-gap (m .store) curr buffer undamaged-store (omega (arith, s .ordered)) (s .word) r;
+          gossips = is;
+          gossip-codes = λ l. subst (λ (o : Outcome). elemB (codeOf (o .answer)) (0 ∷ 1 ∷ 6 ∷ 12 ∷ []) ≡ true) is (answered-codes m prev curr ss a (answers l));
+          asks-for = asks;
+          after-gap = λ e.
+              let stays = heard-stays g n (h .sane) prev curr ss s m (λ z. omega arith) in
+              let behind = by-le (length (m .journal)) mostJournal (λ l. gap-behind m prev curr ss a (answers l) e) (λ l. absurd (omega (arith, e, ap codeOf (over l)))) in
+              subst (λ (st : Store). Asks st curr) (sym stays) (asks behind);
         }
 
   message-of : (bytes : List ℕ) → Written (w .coordinator .granted) (w .coordinator .sent) bytes → Message w bytes
@@ -107,6 +116,7 @@ grown-act w (serves i buffer) =
     let r = serve (w .coordinator) (getD (w .requests) i []) buffer in grown-sending (r .answer) (r .buffer) (w .messages)
 grown-act w (hears i) = grown-not (w .messages)
 grown-act w (does e) = grown-not (w .messages)
+grown-act w startsAgain = grown-not (w .messages)
 
 grown-course : (es : List Act) (w : World) → Grown (w .messages) (course w es .messages)
 grown-course [] w = grown-not (w .messages)
@@ -140,13 +150,17 @@ module _ (k : Coordinator) (buffer : List ℕ) (from to : ℕ) (h : Sane (k .gra
   reply rs a i =
       all-getD (λ bytes. requestIn bytes ≡ request from to → Reply k bytes buffer from to) i rs [] (λ e. never (cc)) (all-map reply-asked rs a)
 
-module _ (w v : World) (h : Good w) (d : Good v) (buffer : List ℕ) (from to : ℕ) (r : 148 ≤ length buffer) (o : from ≤ to) (b : to < 2 ^ 64) where
+abbrev AnsweredTo : Machine → Answer → Change → Type 0
+AnsweredTo m a (commit t ws) = Unit {0}
+AnsweredTo m a (gossip prev curr stamps) = Answered m prev curr stamps a
+AnsweredTo m a (flush p) = Unit {0}
+
+module _ (w v : World) (h : Good w) (d : Good v) (from to : ℕ) (o : from ≤ to) (b : to < 2 ^ 64) where
   -- the message that w writes, among those of v
-  closes-later : Written (v .coordinator .granted) (v .coordinator .sent) (encode (messageFor (w .coordinator) from to)) → from < to
-      → v .machine .store .horizon ≡ from → length (v .machine .journal) ≤ mostJournal
-      → elemB (codeOf (hearing (v .machine) (encode (messageFor (w .coordinator) from to)) .answer)) (0 ∷ 12 ∷ []) ≡ true
+  answered-later : Written (v .coordinator .granted) (v .coordinator .sent) (encode (messageFor (w .coordinator) from to)) → length (v .machine .journal) ≤ mostJournal
+      → AnsweredTo (v .machine) (hearing (v .machine) (encode (messageFor (w .coordinator) from to)) .answer) (messageFor (w .coordinator) from to)
   unfolding messageFor
-  closes-later t l z j =
+  answered-later t j =
       let k = w .coordinator in
       let g = v .coordinator .granted in
       let n = v .coordinator .sent in
@@ -155,34 +169,52 @@ module _ (w v : World) (h : Good w) (d : Good v) (buffer : List ℕ) (from to : 
       let curr = currOf ss to in
       let s = chosen (k .granted) (k .sent) from to (h .sane) o b in
       let n₁ = max (k .sent) curr in
-      let same : gossip from curr (take 16 ss) ≡ gossip (t .prev) (t .curr) (t .stamps) =
-      encode-same (gossip from curr (take 16 ss)) (gossip (t .prev) (t .curr) (t .stamps))
+      let said = gossip (t .prev) (t .curr) (t .stamps) in
+      let same : gossip from curr (take 16 ss) ≡ said =
+      encode-same (gossip from curr (take 16 ss)) said
       (spoken-formed (k .granted) n₁ from curr (take 16 ss) (h .sane) s) (spoken-formed g n (t .prev) (t .curr) (t .stamps) (d .sane) (t .spoken))
       (spoken-words (k .granted) n₁ from curr (take 16 ss) (h .sane) s) (spoken-words g n (t .prev) (t .curr) (t .stamps) (d .sane) (t .spoken)) (t .is) in
-      let p : from ≡ t .prev = cc in
-      let c : curr ≡ t .curr = cc in
-      let far : from < curr = chosen-beyond (k .granted) (k .sent) from to (h .sane) o b l in
       let a = heard g n (d .sane) (t .prev) (t .curr) (t .stamps) (t .spoken) m (knows-granted v d) (undamaged-store v d) (d .faithful .within) j in
-      subst (λ (bytes : List ℕ). elemB (codeOf (hearing m bytes .answer)) (0 ∷ 12 ∷ []) ≡ true) (sym (t .is))
-      (news-codes m (t .prev) (t .curr) (t .stamps) _ a (omega arith) (omega arith))
+      subst (λ (c : Change). AnsweredTo m (hearing m (encode c) .answer) c) (sym same) a
+
+-- the reply to the i-th request, in any later world
+module _ (w : World) (h : Good w) (i from to : ℕ) (buffer : List ℕ) (e : requestIn (getD (w .requests) i []) ≡ request from to) (r : 148 ≤ length buffer) where
+  asked : Reply (w .coordinator) (getD (w .requests) i []) buffer from to
+  asked = reply (w .coordinator) buffer from to (h .sane) (w .requests) (h .requests) i e
+
+  reply-later : (es : List Act) → All ActTyped es → let v = course (acts w (serves i buffer)) es in length (v .machine .journal) ≤ mostJournal
+      → AnsweredTo (v .machine) (hearing (v .machine) (replyTo w i buffer) .answer) (messageFor (w .coordinator) from to)
+  reply-later es y j =
+      let k = w .coordinator in
+      let served = asked .is r in
+      let c = messageFor k from to in
+      let front = front-message k from to buffer (h .sane) r (asked .ordered) (asked .word) in
+      let said : replyTo w i buffer ≡ encode c = ap (λ (x : Messaged). take (numberOf (x .answer)) (x .buffer)) served ∙ front in
+      let v = course (acts w (serves i buffer)) es in
+      let d = good-course es (acts w (serves i buffer)) y (good-serve w i buffer h) in
+      let more = grown-course es (acts w (serves i buffer)) in
+      let joins : v .messages ≡ (w .messages ++ (encode c ∷ [])) ++ more .0 =
+      more .1 ∙ ap (λ l. l ++ more .0) (ap (λ (x : Messaged). sending (x .answer) (x .buffer) (w .messages)) served ∙ ap (λ x. w .messages ++ (x ∷ [])) front) in
+      let P = Written (v .coordinator .granted) (v .coordinator .sent) in
+      let t = all-rest P (w .messages) (encode c ∷ []) (all-part P (w .messages ++ (encode c ∷ [])) (more .0) (subst (All P) joins (d .messages))) .0 in
+      subst (λ (x : List ℕ). AnsweredTo (v .machine) (hearing (v .machine) x .answer) c) (sym said)
+      (answered-later w v h d from to (asked .ordered) (asked .word) t j)
 
 closes-good : (w : World) → Good w → Closes w
+unfolding messageFor
 closes-good w h i from to buffer e l r es y z j =
     let k = w .coordinator in
-    let q = reply k buffer from to (h .sane) (w .requests) (h .requests) i e in
-    let served = q .is r in
-    let bytes = encode (messageFor k from to) in
-    let front = front-message k from to buffer (h .sane) r (q .ordered) (q .word) in
-    let said : replyTo w i buffer ≡ bytes = ap (λ (x : Messaged). take (numberOf (x .answer)) (x .buffer)) served ∙ front in
-    let v = course (acts w (serves i buffer)) es in
-    let d = good-course es (acts w (serves i buffer)) y (good-serve w i buffer h) in
-    let more = grown-course es (acts w (serves i buffer)) in
-    let joins : v .messages ≡ (w .messages ++ (bytes ∷ [])) ++ more .0 =
-    more .1 ∙ ap (λ l. l ++ more .0) (ap (λ (x : Messaged). sending (x .answer) (x .buffer) (w .messages)) served ∙ ap (λ x. w .messages ++ (x ∷ [])) front) in
-    let P = Written (v .coordinator .granted) (v .coordinator .sent) in
-    let t = all-rest P (w .messages) (bytes ∷ []) (all-part P (w .messages ++ (bytes ∷ [])) (more .0) (subst (All P) joins (d .messages))) .0 in
-    subst (λ (x : List ℕ). elemB (codeOf (hearing (v .machine) x .answer)) (0 ∷ 12 ∷ []) ≡ true) (sym said)
-    (closes-later w v h d buffer from to r (q .ordered) (q .word) t l z j)
+    let q = asked w h i from to buffer e r in
+    let far = chosen-beyond (k .granted) (k .sent) from to (h .sane) (q .ordered) (q .word) l in
+    news-codes _ _ _ _ _ (reply-later w h i from to buffer e r es y j) (omega arith) (omega arith)
+
+idles-good : (w : World) → Good w → Idles w
+unfolding messageFor
+idles-good w h i from buffer e r es y z j =
+    let k = w .coordinator in
+    let q = asked w h i from from buffer e r in
+    let near = chosen-within (k .granted) (k .sent) from from (h .sane) (q .ordered) (q .word) in
+    subst (λ (a : Answer). elemB (codeOf a) (1 ∷ []) ≡ true) (sym (reply-later w h i from from buffer e r es y j .known (omega arith) (omega arith))) refl
 
 -- ---- d: neither is ever Damaged
 module _ (k : Coordinator) (d : coordinatorDamaged k ≡ false) where
@@ -211,6 +243,10 @@ module _ (k : Coordinator) (d : coordinatorDamaged k ≡ false) where
   unfolding serve
   serve-sound bytes buffer = served-sound (requestIn bytes) buffer
 
+  keep-sound : (buffer : List ℕ) → NotDamaged (keepCoordinator k buffer .answer)
+  unfolding keepCoordinator
+  keep-sound buffer = rw d (pick-all NotDamaged (ltb (length buffer) 522) (λ _ e. omega arith) (λ _ e. omega arith))
+
 ask-sound : (st : Store) → damaged st ≡ false → (to : ℕ) (buffer : List ℕ) → NotDamaged (ask st to buffer .answer)
 unfolding ask
 ask-sound st d to buffer =
@@ -232,7 +268,19 @@ sound-good w h =
           ap (λ (r : Messaged). codeOf (r .answer))
           (serve-is (w .coordinator) buffer bytes a ∙ message-done (w .coordinator) (a .from) (a .to) buffer (h .sane) l (a .ordered)))
           (w .requests) (h .requests);
+      keeps = keep-sound (w .coordinator) d;
+      restarts = same-again w h;
     }
+
+-- ---- a message or a request that isn't there
+nothing-heard : (w : World) (k : ℕ) → length (w .messages) ≤ k → acts w (hears k) ≡ w
+unfolding hear stepOn
+nothing-heard w k l = rw (List·getD-eq-default (w .messages) [] l)
+
+nothing-served : (w : World) (k : ℕ) (buffer : List ℕ) → length (w .requests) ≤ k → acts w (serves k buffer) ≡ w
+unfolding serve requestIn
+nothing-served w k buffer l =
+    rw (List·getD-eq-default (w .requests) [] l) (by-test (coordinatorDamaged (w .coordinator)) (λ e. rw e) (λ e. rw e))
 
 -- THE COORDINATOR'S END, in every world
 coordinated-good : (w : World) → Good w → Coordinated w
@@ -241,6 +289,9 @@ coordinated-good w h = record {
   knows = knows-granted w h;
   sound = sound-good w h;
   closes = closes-good w h;
+  idles = idles-good w h;
+  unheard = nothing-heard w;
+  unserved = nothing-served w;
 }
 
 pub coordinated : InEveryWorld Coordinated
@@ -276,6 +327,7 @@ alone-act w (hears i) y h =
     all-getD (λ bytes. Alone (w .machine) (left (hearing (w .machine) bytes))) i (w .messages) [] (record { event = callRead; typed = tt; is = refl })
     (all-map (λ bytes t. alone-heard w bytes h t) (w .messages) (h .messages))
 alone-act w (does e) y h = record { event = e; typed = y .1; is = refl }
+alone-act w startsAgain y h = record { event = callRead; typed = tt; is = refl }
 
 alone-course : (es : List Act) (w : World) → All ActTyped es → Good w
     → (fs : List Event) × (AllTyped fs × (course w es .machine ≡ run (w .machine) fs))

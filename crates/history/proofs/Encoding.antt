@@ -25,7 +25,7 @@ write-length : (ws : List Write) → length (writeBytes ws) ≡ 10 * length ws
 write-length [] = refl
 write-length (w ∷ ws) = omega (arith, write-length ws)
 
-stamp-length : (ss : List ℕ) → length (stampBytes ss) ≡ 8 * length ss
+pub stamp-length : (ss : List ℕ) → length (stampBytes ss) ≡ 8 * length ss
 stamp-length [] = refl
 stamp-length (s ∷ ss) = omega (arith, stamp-length ss)
 
@@ -48,7 +48,7 @@ write-bytes : (ws : List Write) → Bytes (writeBytes ws)
 write-bytes [] = tt
 write-bytes (w ∷ ws) = bytes-then 2 (w .object) (be 8 (w .value) ++ writeBytes ws) (bytes-then 8 (w .value) (writeBytes ws) (write-bytes ws))
 
-stamp-bytes : (ss : List ℕ) → Bytes (stampBytes ss)
+pub stamp-bytes : (ss : List ℕ) → Bytes (stampBytes ss)
 stamp-bytes [] = tt
 stamp-bytes (s ∷ ss) = bytes-then 8 s (stampBytes ss) (stamp-bytes ss)
 
@@ -100,7 +100,7 @@ writes-back (w ∷ ws) h k =
     let ih = writes-back ws (h .1) (k .1) in
     λ i. record { object = o i; value = v i } ∷ ih i
 
-stamps-back : (ss : List ℕ) → Below (2 ^ 64) ss → column 8 8 (length ss) (stampBytes ss) ≡ ss
+pub stamps-back : (ss : List ℕ) → Below (2 ^ 64) ss → column 8 8 (length ss) (stampBytes ss) ≡ ss
 stamps-back [] h = refl
 stamps-back (s ∷ ss) h =
     let e = round-trip 8 s (h .0) in
@@ -218,7 +218,7 @@ writes-again (suc n) b h l =
     let r = ap (λ (l : List ℕ). writeBytes (paired (column 2 10 n (drop 10 b)) (column 8 10 n l))) e ∙ ih in
     (λ i. o i ++ (v i ++ r i)) ∙ in-parts 2 8 b
 
-stamps-again : (n : ℕ) (b : List ℕ) → Bytes b → length b ≡ 8 * n → stampBytes (column 8 8 n b) ≡ b
+pub stamps-again : (n : ℕ) (b : List ℕ) → Bytes b → length b ≡ 8 * n → stampBytes (column 8 8 n b) ≡ b
 stamps-again zero [] h l = refl
 stamps-again zero (x ∷ b) h l = absurd (omega arith)
 stamps-again (suc n) b h l =
@@ -237,7 +237,7 @@ paired-below n (o ∷ os) [] h = tt
 paired-below n (o ∷ os) (v ∷ vs) h = (h .0, paired-below n os vs (h .1))
 
 -- the count m stands as the byte at i, and the rows behind it
-counted : (i m : ℕ) (b : List ℕ) → Bytes b → i < length b → m ≡ getD b i 0 → be 1 m ++ drop (suc i) b ≡ drop i b
+pub counted : (i m : ℕ) (b : List ℕ) → Bytes b → i < length b → m ≡ getD b i 0 → be 1 m ++ drop (suc i) b ≡ drop i b
 counted i m b h l e =
     let k : m < 256 = subst (λ (x : ℕ). x < 256) (sym e) (all-getD (λ x. x < 256) i b 0 (lit< tt) h) in
     ap (λ (l : List ℕ). l ++ drop (suc i) b) (be-one m k) ∙ rw e (sym (drop-cons b i 0 l))

@@ -25,11 +25,13 @@ use Rattle.model.specs.Exchange.{heardStep, hear}
 use Rattle.history.specs.Words.{All}
 use Rattle.history.specs.History.{replayFrom, replay, AcceptedFrom, AllAccepted}
 use Rattle.history.specs.Runs.{Machine}
+use Rattle.history.specs.Demands.{NotDone}
 use Rattle.history.specs.Worlds.{hearing, Answered}
-use Rattle.history.proofs.Laws.{by-le, both-left, pick-all}
+use Rattle.history.proofs.Laws.{clash, by-le, both-left, pick-all}
 use Rattle.history.proofs.Lists.{all-map, kept-length}
 use Rattle.history.proofs.Judged.{gossip-ok}
 use Rattle.history.proofs.Writes.{writes-same}
+use Rattle.history.proofs.Determined.{change-refused}
 use Rattle.history.proofs.Ranges.{kept-none, upto-range, beyond-range, range-upto, ranges}
 use Rattle.history.proofs.Coordinators.{Sane, Spoken, spoken-formed, spoken-back}
 
@@ -115,6 +117,13 @@ module _ (g : List ℕ) (n : ℕ) (k : Sane g) (prev curr : ℕ) (stamps : List 
       let b = encode (gossip prev curr stamps) in
       ap (λ z. heardStep z (length b) st j used) (spoken-back g n prev curr stamps k s) ∙ rw (eq-eqb (length b) (length b) refl)
 
+  -- refused, the store stays
+  pub heard-stays : (m : Machine) → NotDone (hearing m (encode (gossip prev curr stamps)) .answer) → hearing m (encode (gossip prev curr stamps)) .store ≡ m .store
+  heard-stays m =
+      let c = gossip prev curr stamps in
+      subst (λ (o : Outcome). NotDone (o .answer) → o .store ≡ m .store) (sym (hear-is (m .store) (m .journal) (m .place)))
+      (λ z. change-refused (m .store) (m .journal) (m .place) true c z .0)
+
   module _ (m : Machine) (e : Knows g (m .store)) (d : damaged (m .store) ≡ false) (w : m .place ≤ length (m .journal)) where
     heard-answer : hearing m (encode (gossip prev curr stamps)) .answer ≡ answerTo (m .store) (m .journal) (m .place) true (gossip prev curr stamps)
     heard-answer =
@@ -157,10 +166,18 @@ answered-codes m prev curr stamps a h =
     (λ b. by-le r (length (m .journal)) (λ z. subst In (sym (h .done l b z)) refl) (λ z. subst In (sym (h .full l b z)) refl)))
     (λ l. subst In (sym (h .gap l)) refl)
 
--- where it is news
+-- where it is news, beyond the horizon but not behind a gap
 pub news-codes : (m : Machine) (prev curr : ℕ) (stamps : List ℕ) (a : Answer) → Answered m prev curr stamps a → prev ≤ m .store .horizon
     → m .store .horizon < curr → elemB (codeOf a) (0 ∷ 12 ∷ []) ≡ true
 news-codes m prev curr stamps a h l b =
     let In : Answer → Type 0 = λ a. elemB (codeOf a) (0 ∷ 12 ∷ []) ≡ true in
     by-le (reached (m .place) (gossip prev curr stamps)) (length (m .journal)) (λ z. subst In (sym (h .done l b z)) refl)
     (λ z. subst In (sym (h .full l b z)) refl)
+
+-- Gap is answered only where the horizon is behind prev
+pub gap-behind : (m : Machine) (prev curr : ℕ) (stamps : List ℕ) (a : Answer) → Answered m prev curr stamps a → codeOf a ≡ 6 → m .store .horizon < prev
+gap-behind m prev curr stamps a h g =
+    by-le prev (m .store .horizon)
+    (λ l. by-le curr (m .store .horizon) (λ b. absurd (omega (arith, g, ap codeOf (h .known l b))))
+    (λ b. clash (elemB (codeOf a) (0 ∷ 12 ∷ [])) (news-codes m prev curr stamps a h l b) (rw g)))
+    (λ l. l)

@@ -36,6 +36,7 @@ pub mod Demands
 pub mod StandIns
 pub mod Ranges
 pub mod Coordinators
+pub mod States
 pub mod Heard
 pub mod Worlds
 pub mod Coordinated

@@ -1,11 +1,11 @@
 -- What every act keeps of a coordinator and its repository, and so the theorem of document 02, request [1].
-use Prim.Native.Nat.{ℕ, zero, suc, _+_, _^_, max, _≤_, _<_}
+use Prim.Native.Nat.{ℕ, zero, suc, _^_, max, _≤_, _<_}
 use mathlib.Core.Path.{_≡_, ap, sym, _∙_, subst}
 use mathlib.Core.Bool.{true}
 use mathlib.Core.List.{List, [], _∷_, _++_}
 use native.Mathlib.Omega.{arith}
 use lib.ListN.{length, take}
-use lib.Dec.{leb}
+use lib.Dec.{leb, lit<}
 use borrow.Author.Tests.{ne-eqb, leb-true}
 use Rattle.model.specs.declared.Answer.{Answer}
 use Rattle.model.specs.Lists.{both, pick}
@@ -16,15 +16,18 @@ use Rattle.model.specs.Changes.{Change, commit, gossip, flush, paired}
 use Rattle.model.specs.Records.{encode, stepOn}
 use Rattle.model.specs.Calls.{Outcome, change, commitCall, flushCall}
 use Rattle.model.specs.Coordinator.{Coordinator, freshCoordinator, coordinatorDamaged, stampOf, granting, grant, stampsIn, currOf, currFor, messageFor, Messaged, message}
+use Rattle.model.specs.CoordinatorBytes.{coordinatorBytes, RestartedCoordinator, restartCoordinator}
 use Rattle.model.specs.Exchange.{requestBytes, ask, Requested, requestIn, served, serve, hear}
 use Rattle.history.specs.Words.{All}
 use Rattle.history.specs.Runs.{Machine, used, Event, callCommit, callGossip, callFlush, callRead, callFresh, cut, left, Typed, historyOf, added, acceptedBy}
-use Rattle.history.specs.Worlds.{World, begin, Act, grants, writes, asks, serves, hears, does, sending, replied, hearing, withMachine, acts, course, Own, ActTyped, InEveryWorld}
+use Rattle.history.specs.States.{startedAgain}
+use Rattle.history.specs.Worlds.{World, begin, Act, grants, writes, asks, serves, hears, does, startsAgain, sending, replied, hearing, withMachine, withCoordinator, acts, course, Own, ActTyped, InEveryWorld}
 use Rattle.history.proofs.Laws.{by-test, by-le, split, pick-all}
 use Rattle.history.proofs.Lists.{all-map, all-append, all-part, all-getD}
 use Rattle.history.proofs.Encoding.{encode-length, write-else}
 use Rattle.history.proofs.Runs.{Faithful, fresh-faithful, nothing-used, surviving, call-faithful, event-faithful}
-use Rattle.history.proofs.Coordinators.{Sane, sane-fresh, sane-more, Spoken, spoken-more, spoken-later, spoken-words, chosen, grant-cases, message-cases, request-back}
+use Rattle.history.proofs.Coordinators.{Sane, sane-fresh, sane-more, undamaged-coordinator, Spoken, spoken-more, spoken-later, spoken-words, chosen, grant-cases, message-cases, request-back}
+use Rattle.history.proofs.States.{state-back}
 use Rattle.history.proofs.Heard.{Hers, hear-is}
 
 -- ---- what was written
@@ -44,9 +47,11 @@ pub record Asked (bytes : List ℕ) : Type 0 where
   pub ordered : from ≤ to
   pub word : to < 2 ^ 64
 
--- ---- THE INVARIANT: the granted stamps ascend; the used bytes of the repository are a history whose gossip is all the coordinator's
+-- ---- THE INVARIANT: the granted stamps ascend, and what was sent is a u64; the used bytes of the repository are a history whose gossip is
+-- all the coordinator's
 pub record Good (w : World) : Type 0 where
   pub sane : Sane (w .coordinator .granted)
+  pub word : w .coordinator .sent < 2 ^ 64
   pub history : List Change
   pub faithful : Faithful (w .machine) history
   pub hers : All (Hers (w .coordinator .granted) (w .coordinator .sent)) history
@@ -55,7 +60,7 @@ pub record Good (w : World) : Type 0 where
 
 pub good-begin : (j : List ℕ) → Good (begin j)
 unfolding freshCoordinator
-good-begin j = record { sane = sane-fresh; history = []; faithful = fresh-faithful j; hers = tt; messages = tt; requests = tt }
+good-begin j = record { sane = sane-fresh; word = lit< tt; history = []; faithful = fresh-faithful j; hers = tt; messages = tt; requests = tt }
 
 -- ---- a change of the coordinator that leaves every message as it was
 module _ (g g₁ : List ℕ) (n n₁ : ℕ) (f : (prev curr : ℕ) (stamps : List ℕ) → Spoken g n prev curr stamps → Spoken g₁ n₁ prev curr stamps) where
@@ -72,15 +77,14 @@ good-grant : (w : World) (tick node : ℕ) → Good w → Good (acts w (grants t
 unfolding grant
 good-grant w tick node h =
     let k = w .coordinator in
-    let P : Answer → Type 0 = λ a.
-    Good (record { coordinator = granting a k .coordinator; machine = w .machine; messages = w .messages; requests = w .requests }) in
-    grant-cases k tick node P h h h h
+    grant-cases k tick node (λ a. Good (withCoordinator w (granting a k .coordinator))) h h h h
     (λ l m b.
     let s = stampOf tick node in
     let still : (prev curr : ℕ) (stamps : List ℕ) → Spoken (k .granted) (k .sent) prev curr stamps → Spoken (k .granted ++ (s ∷ [])) (k .sent) prev curr stamps =
     λ prev curr stamps. spoken-more (k .granted) (k .sent) s prev curr stamps (omega arith) in
     record {
       sane = sane-more (k .granted) s (h .sane) (omega arith) m b;
+      word = h .word;
       history = h .history;
       faithful = h .faithful;
       hers = all-map (hers-still (k .granted) (k .granted ++ (s ∷ [])) (k .sent) (k .sent) still) (h .history) (h .hers);
@@ -118,6 +122,7 @@ good-message w prev clock buffer b h =
     λ prev curr stamps. spoken-later (k .granted) (k .sent) n₁ prev curr stamps (omega arith) in
     record {
       sane = h .sane;
+      word = omega (arith, h .word, chosen (k .granted) (k .sent) prev clock (h .sane) o b .word);
       history = h .history;
       faithful = h .faithful;
       hers = all-map (hers-still (k .granted) (k .granted) (k .sent) n₁ still) (h .history) (h .hers);
@@ -151,6 +156,7 @@ good-ask w to buffer b h =
     let z = split (leb 19 (length buffer)) (leb (st .horizon) to) e in
     record {
       sane = h .sane;
+      word = h .word;
       history = h .history;
       faithful = h .faithful;
       hers = h .hers;
@@ -197,6 +203,7 @@ good-heard w bytes h t =
     subst (λ (x : Outcome). Good (withMachine w (left x))) (sym e)
     (record {
       sane = h .sane;
+      word = h .word;
       history = added o c (h .history);
       faithful = call-faithful m (h .history) true c (h .faithful) (spoken-words g n (t .prev) (t .curr) (t .stamps) (h .sane) s);
       hers = hers-added g n o c (h .history) s (h .hers);
@@ -234,12 +241,20 @@ good-does w e o y h =
     let m = w .machine in
     record {
       sane = h .sane;
+      word = h .word;
       history = acceptedBy m (h .history) e;
       faithful = event-faithful m (h .history) e (h .faithful) y;
       hers = hers-own (w .coordinator .granted) (w .coordinator .sent) m (h .history) e o (h .faithful) (h .hers);
       messages = h .messages;
       requests = h .requests;
     }
+
+-- ---- a restart of the coordinator
+pub same-again : (w : World) → Good w → restartCoordinator (coordinatorBytes (w .coordinator)) ≡ startedAgain (w .coordinator)
+same-again w h = state-back (w .coordinator) (undamaged-coordinator (w .coordinator) (h .sane)) (h .word, h .sane .words)
+
+good-again : (w : World) → Good w → Good (acts w startsAgain)
+good-again w h = subst (λ (r : RestartedCoordinator). Good (withCoordinator w (r .coordinator))) (sym (same-again w h)) h
 
 -- ---- any act, any course
 pub good-act : (w : World) (a : Act) → ActTyped a → Good w → Good (acts w a)
@@ -249,6 +264,7 @@ good-act w (asks to buffer) y h = good-ask w to buffer y h
 good-act w (serves i buffer) y h = good-serve w i buffer h
 good-act w (hears i) y h = good-hear w i h
 good-act w (does e) y h = good-does w e (y .0) (y .1) h
+good-act w startsAgain y h = good-again w h
 
 pub good-course : (es : List Act) (w : World) → All ActTyped es → Good w → Good (course w es)
 good-course [] w y h = h

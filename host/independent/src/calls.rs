@@ -5,7 +5,7 @@
 use crate::rules::{objects_of, page_of, PastRows};
 use crate::tables::{Past, Pending, Rows, Store};
 use crate::{code, journal};
-use crate::{COPIES, OBJECTS, PAGES, PAST, PENDING, SLOTS, SNAPSHOTS, STAMPS, WRITES};
+use crate::{COPIES, OBJECTS, PAGES, PAST, PENDING, REQUEST, SLOTS, SNAPSHOTS, STAMPS, WRITES};
 
 /// What a changing call answers.
 #[derive(Clone, Copy, Debug, Default, PartialEq, Eq)]
@@ -56,8 +56,10 @@ impl Default for Known {
 #[derive(Clone, Copy, Debug, PartialEq, Eq)]
 pub(crate) struct Refusal(pub(crate) u8, pub(crate) u64);
 
-const DAMAGED: Refusal = Refusal(code::DAMAGED, 0);
-const SHAPE: Refusal = Refusal(code::SHAPE, 0);
+pub(crate) const DAMAGED: Refusal = Refusal(code::DAMAGED, 0);
+pub(crate) const SHAPE: Refusal = Refusal(code::SHAPE, 0);
+/// The refusal of bytes that came alone and aren't the record they should be.
+pub(crate) const MALFORMED: Refusal = Refusal(code::MALFORMED, 0);
 
 /// The reply of a change: its new used length, or a refusal and the old one.
 fn reply(outcome: Result<usize, Refusal>, used: usize) -> Reply {
@@ -67,8 +69,8 @@ fn reply(outcome: Result<usize, Refusal>, used: usize) -> Reply {
     }
 }
 
-/// The answer of a read.
-fn answer(outcome: Result<u64, Refusal>) -> (u8, u64) {
+/// The answer of a call without a journal.
+pub(crate) fn answer(outcome: Result<u64, Refusal>) -> (u8, u64) {
     match outcome {
         Ok(number) => (code::DONE, number),
         Err(Refusal(code, number)) => (code, number),
@@ -203,6 +205,52 @@ impl Store {
         let place = journal::append_gossip(journal, used, prev, curr, stamps)?;
         self.apply_gossip(&plan, curr);
         Ok(place)
+    }
+
+    /// Takes in a message as it travels: one gossip record and nothing else.
+    pub fn hear(&mut self, journal: &mut [u8], used: usize, message: &[u8]) -> Reply {
+        reply(self.try_hear(journal, used, message), used)
+    }
+
+    fn try_hear(
+        &mut self,
+        journal: &mut [u8],
+        used: usize,
+        message: &[u8],
+    ) -> Result<usize, Refusal> {
+        let mut rows = [0; OBJECTS];
+        if !self.sound(&mut rows) {
+            return Err(DAMAGED);
+        }
+        let mut stamps = [0; STAMPS];
+        let (prev, curr, stamps) = journal::message_of(message, &mut stamps).ok_or(MALFORMED)?;
+        if !journal::in_shape(journal, used) {
+            return Err(SHAPE);
+        }
+        let plan = self.judge_gossip(used, prev, curr, stamps)?;
+        // A record has one encoding, so the message's bytes are the journal's.
+        let place = journal::append_record(journal, used, message)?;
+        self.apply_gossip(&plan, curr);
+        Ok(place)
+    }
+
+    /// Writes the request for the message that starts at the horizon and goes on up to `to`, as a
+    /// store sends it that has met a gap.
+    pub fn ask(&self, to: u64, buffer: &mut [u8]) -> (u8, u64) {
+        answer(self.try_ask(to, buffer))
+    }
+
+    fn try_ask(&self, to: u64, buffer: &mut [u8]) -> Result<u64, Refusal> {
+        let mut rows = [0; OBJECTS];
+        if !self.sound(&mut rows) {
+            return Err(DAMAGED);
+        }
+        let record = buffer.get_mut(..REQUEST).ok_or(SHAPE)?;
+        if to < self.horizon {
+            return Err(SHAPE);
+        }
+        journal::put_request(record, self.horizon, to);
+        Ok(REQUEST as u64)
     }
 
     /// Archives the page's due snapshots and brings its pending entries to disk.

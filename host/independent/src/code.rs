@@ -4,13 +4,14 @@
 pub const DONE: u8 = 0;
 /// There was nothing to do.
 pub const NOTHING: u8 = 1;
-/// The store's tables aren't those of a store.
+/// The tables aren't those of a store, or of a coordinator.
 pub const DAMAGED: u8 = 2;
 /// An argument is out of range.
 pub const SHAPE: u8 = 3;
 /// A commit names an object twice.
 pub const TWICE: u8 = 4;
-/// A commit isn't after the last commit and the horizon.
+/// A commit isn't after the last commit and the horizon, or a grant not beyond every stamp granted
+/// or sent.
 pub const LATE: u8 = 5;
 /// A message starts beyond the horizon.
 pub const GAP: u8 = 6;
@@ -30,9 +31,9 @@ pub const NO_JOURNAL_ROOM: u8 = 12;
 pub const AHEAD: u8 = 13;
 /// No known snapshot at or before the time read.
 pub const NO_SNAPSHOT: u8 = 14;
-/// The journal has another version.
+/// The journal or the kept state has another version.
 pub const VERSION: u8 = 15;
-/// A record isn't well formed.
+/// A record or a kept state isn't well formed.
 pub const MALFORMED: u8 = 16;
 /// A well-formed record isn't one the store would have written.
 pub const CONTRADICTION: u8 = 17;

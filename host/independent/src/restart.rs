@@ -1,6 +1,6 @@
 //! Rebuilding a store from its journal.
 
-use crate::calls::{commit_in_shape, gossip_in_shape, names_twice, page_in_shape, Reply};
+use crate::calls::{commit_in_shape, names_twice, page_in_shape, Reply};
 use crate::journal::{self, u16_at, u64_at};
 use crate::tables::{Rows, Store};
 use crate::{code, JOURNAL, OBJECTS, STAMPS, VERSION, WRITES};
@@ -74,15 +74,8 @@ impl Store {
     }
 
     fn replay_gossip(&mut self, body: &[u8]) -> Result<(), u8> {
-        let (prev, curr, count, rest) = gossip_parts(body).ok_or(code::MALFORMED)?;
         let mut stamps = [0; STAMPS];
-        let stamps = &mut stamps[..count];
-        for (bytes, stamp) in rest.chunks_exact(journal::STAMP).zip(&mut *stamps) {
-            *stamp = u64_at(bytes).unwrap_or_default();
-        }
-        if !gossip_in_shape(prev, curr, stamps) {
-            return Err(code::MALFORMED);
-        }
+        let (prev, curr, stamps) = journal::gossip_of(body, &mut stamps).ok_or(code::MALFORMED)?;
         let plan = self.judge_gossip(0, prev, curr, stamps).map_err(|_| code::CONTRADICTION)?;
         self.apply_gossip(&plan, curr);
         Ok(())
@@ -105,14 +98,4 @@ fn commit_parts(body: &[u8]) -> Option<(u64, usize, &[u8])> {
     let count = usize::from(*body.get(8)?);
     let writes = &body[9..];
     (count <= WRITES && writes.len() == journal::WRITE * count).then_some((t, count, writes))
-}
-
-/// A message's bounds, count and stamps, if the count is in range and they have its length.
-fn gossip_parts(body: &[u8]) -> Option<(u64, u64, usize, &[u8])> {
-    let prev = u64_at(body)?;
-    let curr = u64_at(&body[8..])?;
-    let count = usize::from(*body.get(16)?);
-    let stamps = &body[17..];
-    (count <= STAMPS && stamps.len() == journal::STAMP * count)
-        .then_some((prev, curr, count, stamps))
 }

@@ -79,6 +79,17 @@ const _: () = assert!(PENDING < 256 && PAST <= 256 && SNAPSHOTS <= 64);
 // The bounds below are tested on all numbers of a table or-ed together.
 const _: () = assert!(OBJECTS.is_power_of_two() && PAGES.is_power_of_two());
 
+/// The last of these stamps, 0 if there are none; `None` if they don't strictly ascend from 1 up.
+pub(crate) fn last_ascending(stamps: &[u64]) -> Option<u64> {
+    let mut ascending = true;
+    let mut before = 0;
+    for &stamp in stamps {
+        ascending &= before < stamp;
+        before = stamp;
+    }
+    ascending.then_some(before)
+}
+
 impl Store {
     /// The fresh store.
     pub const fn fresh() -> Store {
@@ -128,13 +139,7 @@ impl Store {
             return false;
         }
 
-        let mut ascending = true;
-        let mut before = 0;
-        for &snapshot in self.snapshots() {
-            ascending &= before < snapshot;
-            before = snapshot;
-        }
-        if !ascending || before > self.horizon {
+        if last_ascending(self.snapshots()).is_none_or(|last| last > self.horizon) {
             return false;
         }
 

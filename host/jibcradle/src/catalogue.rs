@@ -2,7 +2,7 @@
 //! given a wrong one.
 
 use crate::answers::{Change, Known, Moved, Snapshot, Standing};
-use crate::{Refusal, Store, JOURNAL, SLOTS, WRITES};
+use crate::{Refusal, Store, JOURNAL, REQUEST, SLOTS, WRITES};
 use std::fmt;
 
 /// A store, its journal and the journal's place, in memory.
@@ -84,6 +84,29 @@ impl Catalogue {
     pub fn gossip(&mut self, prev: u64, curr: u64, stamps: &[u64]) -> Result<Change, Refusal> {
         let moved = self.store.gossip(&mut self.journal, self.place, prev, curr, stamps);
         self.moved(moved)
+    }
+
+    /// Takes in a message as a [`Coordinator`](crate::Coordinator) wrote it. On a
+    /// [`Refusal::Gap`], [`Catalogue::ask`] gives the request for what was missed.
+    ///
+    /// # Errors
+    ///
+    /// [`Refusal::Malformed`] where the bytes aren't exactly one message; then those of
+    /// [`Catalogue::gossip`].
+    pub fn hear(&mut self, message: &[u8]) -> Result<Change, Refusal> {
+        let moved = self.store.hear(&mut self.journal, self.place, message);
+        self.moved(moved)
+    }
+
+    /// The request for all snapshots from the horizon up to `to`, for a coordinator to serve.
+    ///
+    /// # Errors
+    ///
+    /// [`Refusal::Shape`] where `to` lies before the horizon.
+    pub fn ask(&self, to: u64) -> Result<[u8; REQUEST], Refusal> {
+        let mut request = [0; REQUEST];
+        self.store.ask(to, &mut request).outcome()?;
+        Ok(request)
     }
 
     /// Archives the page's due snapshots and brings its pending entries to disk.

@@ -1,4 +1,4 @@
-//! The ten calls of the static library, and one of the system's, each behind a safe function. All
+//! The calls of the static library, and one of the system's, each behind a safe function. All
 //! of the crate's `unsafe` is here.
 //!
 //! Common to all: the library is proved to take every input whatever and to touch no memory but
@@ -10,6 +10,7 @@
 #![allow(unsafe_code)]
 
 use crate::answers::{Knowledge, Moved, Reply, Report};
+use crate::coordinator::CoordinatorState;
 use crate::store::{Heads, Store};
 use std::mem::{align_of, offset_of, size_of};
 
@@ -21,6 +22,10 @@ const _: () = assert!(offset_of!(Store, pending) == 8_192 && offset_of!(Store, p
 const _: () = assert!(offset_of!(Store, snapshots) == 20_480);
 const _: () = assert!(offset_of!(Store, copies) == 20_992 && offset_of!(Store, copied) == 23_040);
 const _: () = assert!(offset_of!(Store, heads) == 39_424);
+const _: () = assert!(size_of::<CoordinatorState>() == 528 && align_of::<CoordinatorState>() == 8);
+const _: () = assert!(offset_of!(CoordinatorState, count) == 0);
+const _: () = assert!(offset_of!(CoordinatorState, sent) == 8);
+const _: () = assert!(offset_of!(CoordinatorState, granted) == 16);
 const _: () = assert!(size_of::<Moved>() == 24 && size_of::<Reply>() == 16);
 const _: () = assert!(size_of::<Report>() == 56 && size_of::<Knowledge>() == 552);
 const _: () = assert!(offset_of!(Knowledge, stamps) == 40);
@@ -78,6 +83,41 @@ extern "C" {
     ) -> Reply;
     fn jibcradle_standing(store: *const Store) -> Report;
     fn jibcradle_known(store: *const Store) -> Knowledge;
+    fn jibcradle_ask(store: *const Store, to: u64, buffer: *mut u8, length: usize) -> Reply;
+    fn jibcradle_hear(
+        store: *mut Store,
+        journal: *mut u8,
+        length: usize,
+        used: usize,
+        message: *const u8,
+        message_length: usize,
+    ) -> Moved;
+    fn jibcradle_coordinator_fresh(state: *mut CoordinatorState) -> Reply;
+    fn jibcradle_grant(state: *mut CoordinatorState, tick: u64, node: u64) -> Reply;
+    fn jibcradle_message(
+        state: *mut CoordinatorState,
+        prev: u64,
+        clock: u64,
+        buffer: *mut u8,
+        length: usize,
+    ) -> Reply;
+    fn jibcradle_serve(
+        state: *mut CoordinatorState,
+        request: *const u8,
+        request_length: usize,
+        buffer: *mut u8,
+        length: usize,
+    ) -> Reply;
+    fn jibcradle_coordinator_keep(
+        state: *const CoordinatorState,
+        buffer: *mut u8,
+        length: usize,
+    ) -> Reply;
+    fn jibcradle_coordinator_restart(
+        state: *mut CoordinatorState,
+        bytes: *const u8,
+        length: usize,
+    ) -> Reply;
 }
 
 extern "C" {
@@ -173,6 +213,64 @@ pub(crate) fn standing(store: &Store) -> Report {
 pub(crate) fn known(store: &Store) -> Knowledge {
     // SAFETY: the store is lent for reading, and it alone is touched.
     unsafe { jibcradle_known(store) }
+}
+
+pub(crate) fn ask(store: &Store, to: u64, buffer: &mut [u8]) -> Reply {
+    // SAFETY: the store is lent for reading, the buffer for writing, with its own length.
+    unsafe { jibcradle_ask(store, to, buffer.as_mut_ptr(), buffer.len()) }
+}
+
+pub(crate) fn hear(store: &mut Store, journal: &mut [u8], used: usize, message: &[u8]) -> Moved {
+    // SAFETY: store and journal are lent for writing, the message for reading, each slice with its
+    // own length. A used length beyond the journal is refused by the library.
+    unsafe {
+        jibcradle_hear(
+            store,
+            journal.as_mut_ptr(),
+            journal.len(),
+            used,
+            message.as_ptr(),
+            message.len(),
+        )
+    }
+}
+
+pub(crate) fn coordinator_fresh(state: &mut CoordinatorState) -> Reply {
+    // SAFETY: the state is lent for writing, and it alone is touched.
+    unsafe { jibcradle_coordinator_fresh(state) }
+}
+
+pub(crate) fn grant(state: &mut CoordinatorState, tick: u64, node: u64) -> Reply {
+    // SAFETY: the state is lent for writing, and it alone is touched.
+    unsafe { jibcradle_grant(state, tick, node) }
+}
+
+pub(crate) fn message(
+    state: &mut CoordinatorState,
+    prev: u64,
+    clock: u64,
+    buffer: &mut [u8],
+) -> Reply {
+    // SAFETY: state and buffer are lent for writing, the buffer with its own length.
+    unsafe { jibcradle_message(state, prev, clock, buffer.as_mut_ptr(), buffer.len()) }
+}
+
+pub(crate) fn serve(state: &mut CoordinatorState, request: &[u8], buffer: &mut [u8]) -> Reply {
+    // SAFETY: state and buffer are lent for writing, the request for reading, each slice with its
+    // own length.
+    unsafe {
+        jibcradle_serve(state, request.as_ptr(), request.len(), buffer.as_mut_ptr(), buffer.len())
+    }
+}
+
+pub(crate) fn coordinator_keep(state: &CoordinatorState, buffer: &mut [u8]) -> Reply {
+    // SAFETY: the state is lent for reading, the buffer for writing, with its own length.
+    unsafe { jibcradle_coordinator_keep(state, buffer.as_mut_ptr(), buffer.len()) }
+}
+
+pub(crate) fn coordinator_restart(state: &mut CoordinatorState, bytes: &[u8]) -> Reply {
+    // SAFETY: the state is lent for writing, the bytes for reading, with their own length.
+    unsafe { jibcradle_coordinator_restart(state, bytes.as_ptr(), bytes.len()) }
 }
 
 /// Whether there is a process with this number, one that isn't ours to look at too.

@@ -2,7 +2,7 @@
 
 use crate::answers::{Change, Known, Snapshot, Standing};
 use crate::journal_file::{JournalFile, Torn};
-use crate::{Catalogue, Error, Refusal, Store, SLOTS};
+use crate::{Catalogue, Error, Refusal, Store, REQUEST, SLOTS};
 use std::fmt;
 use std::path::Path;
 
@@ -104,6 +104,25 @@ impl FileCatalogue {
     /// error poisons the catalogue, see [`FileCatalogue`].
     pub fn gossip(&mut self, prev: u64, curr: u64, stamps: &[u64]) -> Result<Change, Error> {
         self.change(|catalogue| catalogue.gossip(prev, curr, stamps))
+    }
+
+    /// Takes in a message as a [`Coordinator`](crate::Coordinator) wrote it.
+    ///
+    /// # Errors
+    ///
+    /// [`Error::Refused`] with what [`Catalogue::hear`] refuses; nothing has changed. Any other
+    /// error poisons the catalogue, see [`FileCatalogue`].
+    pub fn hear(&mut self, message: &[u8]) -> Result<Change, Error> {
+        self.change(|catalogue| catalogue.hear(message))
+    }
+
+    /// The request for all snapshots from the horizon up to `to`, for a coordinator to serve.
+    ///
+    /// # Errors
+    ///
+    /// Those of [`Catalogue::ask`].
+    pub fn ask(&self, to: u64) -> Result<[u8; REQUEST], Refusal> {
+        self.catalogue.ask(to)
     }
 
     /// Archives the page's due snapshots and brings its pending entries to disk.

@@ -5,8 +5,11 @@
 //! * [`Catalogue::open`] gives a [`FileCatalogue`], whose journal is kept in a file: what is
 //!   acknowledged is there for good, killed or not. It is what most programs want.
 //! * [`Catalogue`] owns the store, its journal and the journal's place, all in memory.
-//! * [`Store`] is the store's memory itself, with the ten calls as the library has them, for
+//! * [`Store`] is the store's memory itself, with its calls as the library has them, for
 //!   programs that keep the journal on their own.
+//! * [`Coordinator`] grants snapshots and writes the messages that tell of them;
+//!   [`Catalogue::hear`] takes one, and after a gap [`Catalogue::ask`] writes the request for what
+//!   was missed.
 //!
 //! A call that the store refuses gives a [`Refusal`], with the scope document's code, number and
 //! name. Calls that also need the file give an [`Error`], of which a refusal is one.
@@ -37,6 +40,7 @@
 
 mod answers;
 mod catalogue;
+mod coordinator;
 mod error;
 mod ffi;
 mod file_catalogue;
@@ -48,6 +52,7 @@ mod store;
 
 pub use answers::{Change, Knowledge, Known, Moved, Reply, Report, Snapshot, Standing};
 pub use catalogue::Catalogue;
+pub use coordinator::{Coordinator, CoordinatorState};
 pub use error::Error;
 pub use file_catalogue::FileCatalogue;
 pub use journal_file::Torn;
@@ -74,3 +79,11 @@ pub const SNAPSHOTS: usize = 64;
 pub const COPIES: usize = 128;
 /// Longest journal, in bytes.
 pub const JOURNAL: usize = 65_535;
+/// Most snapshots of a coordinator.
+pub const GRANTED: usize = 64;
+/// Longest message of a coordinator, in bytes.
+pub const MESSAGE: usize = 148;
+/// A request to a coordinator, in bytes.
+pub const REQUEST: usize = 19;
+/// Longest coordinator kept as bytes.
+pub const KEPT: usize = 522;

@@ -100,17 +100,17 @@ macro_rules! refusals {
 
 refusals! {
     2 "Damaged" Damaged
-        "the store is damaged"
-        "the tables aren't those of a store. Never answered by a store reached by calls.";
+        "the store or the coordinator is damaged"
+        "the tables aren't those of a store, or the state not a coordinator's. Never answered by one reached by calls.";
     3 "Shape" Shape
         "an argument is out of range"
-        "a list, page, object, tick, buffer, journal or used length is out of range.";
+        "a list, page, object, tick, node, stamp, buffer, journal or used length is out of range.";
     4 "Twice" Twice
         "an object is named twice"
         "a commit names one object twice.";
-    5 "Late" Late { latest: "The larger of the last commit and the horizon." }
-        "the commit isn't after stamp {latest}"
-        "a commit isn't after the last commit and the horizon.";
+    5 "Late" Late { latest: "The largest stamp that it had to be after." }
+        "the stamp isn't after {latest}"
+        "a commit isn't after the last commit and the horizon, or a grant after all that was granted and sent.";
     6 "Gap" Gap { horizon: "The horizon." }
         "the message starts beyond the horizon {horizon}"
         "a message starts beyond the horizon.";
@@ -139,11 +139,11 @@ refusals! {
         "no known snapshot at or before the time"
         "no known snapshot at or before the time read.";
     15 "Version" Version { found: "The byte found." }
-        "the journal has version {found}, not 1"
-        "the journal has another version.";
-    16 "Malformed" Malformed { offset: "Offset of the record's length." }
-        "the record at {offset} is malformed"
-        "a record of the journal isn't well formed.";
+        "the version is {found}, not 1"
+        "the journal, or what was kept of a coordinator, has another version.";
+    16 "Malformed" Malformed { offset: "Offset of the record's length, or of the bad field." }
+        "what stands at {offset} is malformed"
+        "a record of the journal, a message, a request or what was kept of a coordinator isn't well formed.";
     17 "Contradiction" Contradiction { offset: "Offset of the record's length." }
         "the record at {offset} contradicts those before it"
         "a well-formed record isn't one that the rebuilt store would have written.";

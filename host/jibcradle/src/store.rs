@@ -1,4 +1,4 @@
-//! The store's memory, and the ten calls as the library has them.
+//! The store's memory, and its calls as the library has them.
 
 use crate::answers::{Knowledge, Moved, Reply, Report};
 use crate::{ffi, COPIES, OBJECTS, PAST, PENDING, SLOTS, SNAPSHOTS};
@@ -187,6 +187,18 @@ impl Store {
     /// Tells the horizon, the last commit and all known snapshots.
     pub fn known(&self) -> Knowledge {
         ffi::known(self)
+    }
+
+    /// Takes in a message as a [`Coordinator`](crate::Coordinator) wrote it, as [`Store::gossip`]
+    /// takes its numbers. Bytes that aren't exactly one message are malformed.
+    pub fn hear(&mut self, journal: &mut [u8], used: usize, message: &[u8]) -> Moved {
+        ffi::hear(self, journal, used, message)
+    }
+
+    /// After a gap: writes the request for all snapshots from the horizon up to `to` to the front
+    /// of the buffer, which has 19 bytes or more. Refused, it leaves the buffer as it was.
+    pub fn ask(&self, to: u64, buffer: &mut [u8]) -> Reply {
+        ffi::ask(self, to, buffer)
     }
 
     /// The pending entries that are contents; all rows where the count is over its limit.

@@ -20,6 +20,19 @@ standing: code 0, 0 pending, 1 past, 1 snapshots, 1 copies, lag 0
 known: code 0, horizon 110, last commit 120, snapshots: 105
 restart                    code  0, number  77, place  77: Done
 read at time 107           code  0, number 105: Done, page 0: 7 0 0 0 0 0 0 0 0 0 0 0 0 0 0 0
+fresh                      code  0, number   0, place   0: Done
+a fresh coordinator        code  0, number   0: Done
+grant tick 1, node 5       code  0, number 261: Done
+message 0 to 300, lost     code  0, number  28: Done
+grant the same again       code  5, number 300: Late
+message 300 to 600         code  0, number  20: Done
+hear it                    code  6, number   0, place   0: Gap
+ask up to 600              code  0, number  19: Done
+serve the request          code  0, number  28: Done
+hear the reply             code  0, number  29, place  29: Done
+hear it again              code  1, number  29, place  29: Nothing
+known: code 0, horizon 600, last commit 0, snapshots: 261
+journal: 01 00 1a 02 00 00 00 00 00 00 00 00 00 00 00 00 00 00 02 58 01 00 00 00 00 00 00 01 05
 ";
 
 /// The example's folder.

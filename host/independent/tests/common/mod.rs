@@ -84,6 +84,44 @@ pub fn known(horizon: u64, last: u64, snapshots: &[u64]) -> Known {
     known
 }
 
+/// A coordinator that has granted these stamps.
+pub fn coordinator(granted: &[u64], sent: u64) -> Coordinator {
+    let mut coordinator = Coordinator { sent, ..Coordinator::fresh() };
+    coordinator.granted[..granted.len()].copy_from_slice(granted);
+    coordinator.count = granted.len() as u64;
+    coordinator
+}
+
+/// Whether two coordinators agree in everything, also in stamps past the count.
+pub fn alike(one: &Coordinator, two: &Coordinator) -> bool {
+    one.count == two.count && one.sent == two.sent && one.granted == two.granted
+}
+
+/// The bytes of a message.
+pub fn message_bytes(prev: u64, curr: u64, stamps: &[u64]) -> Vec<u8> {
+    let mut bytes = vec![0, 18 + 8 * stamps.len() as u8, 2];
+    bytes.extend(prev.to_be_bytes());
+    bytes.extend(curr.to_be_bytes());
+    bytes.push(stamps.len() as u8);
+    for stamp in stamps {
+        bytes.extend(stamp.to_be_bytes());
+    }
+    bytes
+}
+
+/// The bytes of a request.
+pub fn request_bytes(from: u64, to: u64) -> Vec<u8> {
+    let mut bytes = vec![0, 17, 4];
+    bytes.extend(from.to_be_bytes());
+    bytes.extend(to.to_be_bytes());
+    bytes
+}
+
+/// The number that these bytes are.
+pub fn number(bytes: &[u8]) -> u64 {
+    bytes.iter().fold(0, |n, &byte| n << 8 | u64::from(byte))
+}
+
 /// Sixteen values, of which those named differ from 0.
 pub fn page_with(slots: &[(usize, u64)]) -> [u64; SLOTS] {
     let mut page = [0; SLOTS];
@@ -475,9 +513,6 @@ impl Model {
         }
         if journal[0] != 1 {
             return (15, u64::from(journal[0]));
-        }
-        fn number(bytes: &[u8]) -> u64 {
-            bytes.iter().fold(0, |n, &b| n << 8 | u64::from(b))
         }
         let mut place = 1;
         loop {
