@@ -18,12 +18,13 @@ class Skipped(Exception):
 
 
 class Bench:
-    """What a test is given: the script as a person uses it, the program without the script, a folder of its own, a seeded
+    """What a test is given: the script as a person uses it, the programs without the script, a folder of its own, a seeded
     source of chance. Tests that start it very often or know its process number use the bare program."""
 
     def __init__(self, program, folder, quick, seed, kills):
         self.program, self.folder, self.quick_folder, self.kills = program, folder, quick, kills
         self.bare, self.lags = program.bare(), {}
+        self.coordinator, self.bare_coordinator = program.coordinator(), program.bare_coordinator()
         self.chance = random.Random(seed)
         self.words = []
 
@@ -77,7 +78,7 @@ def is_full(used):
 
 def full_words(path, place, asked, answers):
     """What must be said of a journal's fullness: at its start, and whenever a change passes nine tenths."""
-    changes = (b"commit", b"gossip", b"flush", b"fresh")
+    changes = (b"commit", b"gossip", b"flush", b"fresh", b"hear")
     lengths = [place] + [int(answer.split()[1]) for line, answer in zip(asked, answers)
                          if answer.startswith("0 ") and line.split()[0] in changes]
     return [full_word(path, used) for before, used in zip([0] + lengths, lengths) if is_full(used) and not is_full(before)]

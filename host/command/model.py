@@ -1,5 +1,5 @@
-# The store of document 01 and the lines of the command, written in Python from the documents alone.
-# The tests hold the command's answers and its journal's bytes against this.
+# The store of document 01, the coordinator of document 02 and the lines of both commands, written in Python from the documents alone.
+# The tests hold the commands' answers, the journal's bytes and those of the coordinator's file against this.
 
 import re
 from bisect import bisect_left, bisect_right
@@ -7,10 +7,13 @@ from bisect import bisect_left, bisect_right
 PAGES, SLOTS, OBJECTS = 32, 16, 512
 MOST_WRITES, MOST_STAMPS = 16, 16
 MOST_PENDING, MOST_PAST, MOST_SNAPSHOTS, MOST_COPIES = 128, 256, 64, 128
+MOST_GRANTED = 64
 JOURNAL_ROOM = 65535
 WORD = 2 ** 64
 TICKS = 2 ** 56
+NODES = 256
 LONGEST_LINE = 1048576
+MOST_HEX = 1024
 
 NAMES = ["Done", "Nothing", "Damaged", "Shape", "Twice", "Late", "Gap", "Conflict", "Pending full",
          "Past full", "Snapshots full", "Archive full", "No journal room", "Ahead", "No snapshot",
@@ -125,11 +128,14 @@ def commit(store, stamp, writes):
     return DONE, apply
 
 
+def is_shaped(prev, curr, stamps):
+    return (len(stamps) <= MOST_STAMPS and prev <= curr
+            and all(prev < stamp <= curr for stamp in stamps)
+            and all(a < b for a, b in zip(stamps, stamps[1:])))
+
+
 def gossip(store, prev, curr, stamps):
-    shaped = (len(stamps) <= MOST_STAMPS and prev <= curr
-              and all(prev < stamp <= curr for stamp in stamps)
-              and all(a < b for a, b in zip(stamps, stamps[1:])))
-    if not shaped:
+    if not is_shaped(prev, curr, stamps):
         return SHAPE, 0
     if prev > store.horizon:
         return GAP, store.horizon
@@ -301,17 +307,114 @@ def records(data):
     return lines + ["# %d end" % number if number == len(data) else "# %d torn, %d bytes" % (number, len(data) - number)]
 
 
+# ---- what a repository and a coordinator send each other ----
+
+REQUEST_LENGTH = 19
+
+
+def request(start, to):
+    """The record of kind 4: a repository asks for what lies between its horizon and a clock stamp."""
+    return b"\x00\x11\x04" + word(start) + word(to)
+
+
+def request_in(data):
+    """What is asked for, where the bytes are one whole record of kind 4 and nothing else."""
+    if len(data) == REQUEST_LENGTH and data[:3] == b"\x00\x11\x04":
+        return unword(data, 3), unword(data, 11)
+    return None
+
+
+def message_in(data):
+    """What is told, where the bytes are one whole, well-formed record of kind 2 and nothing else."""
+    length = int.from_bytes(data[:2], "big")
+    if len(data) < 3 or len(data) != 2 + length or data[2] != 2:
+        return None
+    call = decode(data[2:])
+    return call[1] if call and is_shaped(*call[1]) else None
+
+
+# ---- the coordinator ----
+
+class Coordinator:
+    """The stamps that it has granted, and the largest curr that it has sent. Its calls give code, number and what is shown."""
+
+    def __init__(self, granted=(), sent=0):
+        self.granted, self.sent = list(granted), sent
+
+    def copy(self):
+        return Coordinator(self.granted, self.sent)
+
+    def top(self):
+        return max(self.granted[-1:] + [self.sent])
+
+    def grant(self, tick, node):
+        if tick >= TICKS or node >= NODES:
+            return SHAPE, 0, []
+        stamp = 256 * tick + node
+        if stamp <= self.top():
+            return LATE, self.top(), []
+        if len(self.granted) == MOST_GRANTED:
+            return SNAPSHOTS_FULL, 0, []
+        self.granted.append(stamp)
+        return DONE, stamp, []
+
+    def message(self, prev, clock):
+        if clock < prev:
+            return SHAPE, 0, []
+        stamps = [stamp for stamp in self.granted if prev < stamp <= clock]
+        curr = clock if len(stamps) <= MOST_STAMPS else stamps[MOST_STAMPS - 1]
+        self.sent = max(self.sent, curr)
+        data = record("gossip", (prev, curr, stamps[:MOST_STAMPS]))
+        return DONE, len(data), [data.hex()]
+
+    def serve(self, data):
+        asked = request_in(data)
+        return self.message(*asked) if asked else (MALFORMED, 0, [])
+
+    def told(self):
+        return DONE, 0, [len(self.granted), self.sent] + self.granted
+
+    def kept(self):
+        """The bytes of its file."""
+        return b"\x01" + word(self.sent) + bytes([len(self.granted)]) + b"".join(map(word, self.granted))
+
+
+def restart_coordinator(data):
+    """Code, number and coordinator of a restart from these bytes."""
+    if not data:
+        return DONE, 0, Coordinator()
+    if data[0] != 1:
+        return VERSION, data[0], Coordinator()
+    if len(data) < 10:
+        return MALFORMED, 1, Coordinator()
+    if data[9] > MOST_GRANTED or len(data) != 10 + 8 * data[9]:
+        return MALFORMED, 9, Coordinator()
+    stamps, last = [], 0
+    for at in range(10, len(data), 8):
+        if unword(data, at) <= last:
+            return MALFORMED, at, Coordinator()
+        last = unword(data, at)
+        stamps.append(last)
+    return DONE, len(data), Coordinator(stamps, unword(data, 1))
+
+
 # ---- a line and its call ----
 
 FORMS = {  # name: how many numbers, then what list
     b"commit": (1, "pairs"), b"gossip": (2, "numbers"), b"flush": (1, None), b"read": (2, None),
     b"clock": (2, None), b"now": (1, None), b"standing": (0, None), b"fresh": (0, None),
-    b"cut": (1, None), b"known": (0, None), b"quit": (0, None), b"exit": (0, None), b"help": (0, None),
+    b"cut": (1, None), b"known": (0, None), b"quit": (0, None), b"exit": (0, None), b"help": (0, "topic"),
+    b"ask": (1, None), b"hear": (0, "hex"),
+}
+ORDERS = {  # the coordinator's
+    b"grant": (2, None), b"message": (2, None), b"serve": (0, "hex"), b"granted": (0, None),
+    b"quit": (0, None), b"exit": (0, None), b"help": (0, None),
 }
 TOPICS = (None, b"codes", b"standing")  # what help may be asked about
 MARK = b"\xef\xbb\xbf"  # the UTF-8 mark that some editors put in front of a text
 UNKNOWN, MISSING, DIGIT = "no such call", "a word is missing", "no digit"
 LARGE, EQUALS, EXTRA = "a number of 2^64 or more", "`=` is missing", "a word too many"
+HEX, LONG, ODD = "no hex digit", "more than 1024 hex digits", "an odd number of hex digits"
 
 
 class Fault(Exception):
@@ -351,21 +454,40 @@ def pair(text, column):
     return thing_number, number(value, column + len(thing) + 1)
 
 
-def parse(line):
+def hex_bytes(text, column):
+    """A text of hex digits as bytes."""
+    if not text:
+        raise Fault(MISSING, column)
+    rest = text.lstrip(b"0123456789abcdefABCDEF")
+    if rest:
+        raise Fault(HEX, column + len(text) - len(rest))
+    if len(text) > MOST_HEX:
+        raise Fault(LONG, column)
+    if len(text) % 2:
+        raise Fault(ODD, column)
+    return bytes.fromhex(text.decode())
+
+
+def topic_word(text, column):
+    if text not in TOPICS:
+        raise Fault(UNKNOWN, column)
+
+
+def parse(line, forms=FORMS):
     """None for a line passed over, else the call's name and arguments. Raises Fault."""
     words, end = words_of(line)
     name, column = next(words, (None, None))
     if name is None:
         return None
-    if name not in FORMS:
+    if name not in forms:
         raise Fault(UNKNOWN, column)
-    count, rest = FORMS[name]
+    count, rest = forms[name]
     arguments = [number(*next(words, (b"", end))) for _ in range(count)]
-    if name == b"help":
-        topic, column = next(words, (None, None))
-        if topic not in TOPICS:
-            raise Fault(UNKNOWN, column)
-    if rest is not None:
+    if rest == "topic":
+        topic_word(*next(words, (None, None)))
+    elif rest == "hex":
+        arguments.append(hex_bytes(*next(words, (b"", end))))
+    elif rest is not None:
         one = pair if rest == "pairs" else number
         arguments.append([one(*word) for word in words])
     for _, column in words:
@@ -373,7 +495,7 @@ def parse(line):
     return name.decode(), arguments
 
 
-# ---- the command: a line's answer, with the journal behind it ----
+# ---- the commands: a line's answer, with the journal or the coordinator's file behind it ----
 
 END = "the end of the program"  # in the place of an answer to quit and exit
 
@@ -382,8 +504,26 @@ def show(code, number, figures=()):
     return " ".join([str(code), str(number), NAMES[code]] + [str(figure) for figure in figures])
 
 
-class Command:
+class Lines:
+    """What both commands do with a line."""
+
+    def answer(self, line, at=1):
+        """The answer to a line of bytes without its newline, or None where it is passed over. The input's first line is at 1."""
+        if len(line) > LONGEST_LINE:
+            return "? line %d is longer than 1048576 bytes" % at
+        if at == 1 and line.startswith(MARK):
+            line = line[len(MARK):]
+        try:
+            call = parse(line, self.forms)
+        except Fault as fault:
+            return fault.told(at)
+        return None if call is None else self.call(*call)
+
+
+class Command(Lines):
     """The command without a file: its store, and the used bytes of its journal."""
+
+    forms = FORMS
 
     def __init__(self, data=b""):
         self.code, self.place, self.store = restart(data)
@@ -409,12 +549,28 @@ class Command:
         self.journal += more
         return DONE, len(self.journal)
 
+    def ask(self, to):
+        """The request for all that lies between the horizon and a clock stamp."""
+        if to < self.store.horizon:
+            return SHAPE, 0, []
+        return DONE, REQUEST_LENGTH, [request(self.store.horizon, to).hex()]
+
+    def hear(self, data):
+        """A message's bytes; behind a gap stands the request that would close it."""
+        told = message_in(data)
+        if told is None:
+            return MALFORMED, 0, []
+        code, number = self.change("gossip", told)
+        return code, number, self.ask(told[1])[2] if code == GAP else []
+
     def call(self, name, arguments):
         """The answer's text; help has none that is settled."""
         if name in ("quit", "exit"):
             return END
         if name in CHANGES:
             return show(*self.change(name, arguments))
+        if name in ("ask", "hear"):
+            return show(*getattr(self, name)(*arguments))
         if name == "fresh":
             self.__init__()
             return show(DONE, 0)
@@ -423,24 +579,42 @@ class Command:
             return show(self.code, self.place)
         return show(*READS[name](self.store, *arguments))
 
-    def answer(self, line, at=1):
-        """The answer to a line of bytes without its newline, or None where it is passed over. The input's first line is at 1."""
-        if len(line) > LONGEST_LINE:
-            return "? line %d is longer than 1048576 bytes" % at
-        if at == 1 and line.startswith(MARK):
-            line = line[len(MARK):]
-        try:
-            call = parse(line)
-        except Fault as fault:
-            return fault.told(at)
-        return None if call is None else self.call(*call)
+
+class Coordinating(Lines):
+    """The coordinator's command without its file: the coordinator, and the bytes that its file holds. They change with it."""
+
+    forms = ORDERS
+
+    def __init__(self, data=b""):
+        self.code, self.place, self.coordinator = restart_coordinator(data)
+        self.file = data if self.code == DONE else b""
+
+    def copy(self):
+        other = Coordinating.__new__(Coordinating)
+        other.code, other.place = self.code, self.place
+        other.coordinator, other.file = self.coordinator.copy(), self.file
+        return other
+
+    def call(self, name, arguments):
+        """The answer's text; help has none that is settled."""
+        if name in ("quit", "exit"):
+            return END
+        if name == "granted":
+            return show(*self.coordinator.told())
+        before = self.coordinator.kept()
+        answer = show(*getattr(self.coordinator, name)(*arguments))
+        if self.coordinator.kept() != before:
+            self.file = self.coordinator.kept()
+        return answer
 
 
 def line_of(name, arguments):
     """The line that makes a call, as text."""
     words = [name]
     for argument in arguments:
-        if not isinstance(argument, (list, tuple)):
+        if isinstance(argument, bytes):
+            words.append(argument.hex())
+        elif not isinstance(argument, (list, tuple)):
             words.append(str(argument))
         elif name == "commit":
             words += ["%d=%d" % item for item in argument]

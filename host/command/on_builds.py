@@ -10,7 +10,7 @@ import time
 
 from bench import Skipped, opened, test
 from on_files import NOBODY
-from on_scripts import USAGE, ended, lives, on_a_terminal_of, path_without, program_of, script_of, stub
+from on_scripts import USAGE, lives, on_a_terminal_of, path_without, program_of, script_of, stub
 from on_terminals import until
 from running import PATIENCE, Program, contents, expect, put, shown
 
@@ -18,7 +18,8 @@ from running import PATIENCE, Program, contents, expect, put, shown
 RT = """
 echo "$*" >>called
 sum=$(cat crates.txt crates/*/src/* | cksum)
-for crate in %s; do
+if [ $2 = coordinating ]; then crates='%s'; else crates='%s'; fi
+for crate in $crates; do
     echo "fn $crate::some: proved"
     if [ -e fails ] && [ $crate = tables ]; then echo "rt: tables NOT PROVED (exit 1, 3 s)"; echo "rt: FAILED: tables"; exit 1; fi
     echo "rt: $crate proved (3 s)"
@@ -26,18 +27,18 @@ done
 [ ! -e slow ] || sleep 0.7
 [ ! -e edited ] || touch crates/jibcradle/src/help.rt
 mkdir -p target/bin target/stamp
-if [ "$(cat target/stamp/jibcradle 2>&1)" != "$sum" ]; then
-    rm -f target/stamp/jibcradle
-    cp %s target/bin/jibcradle
+if [ "$(cat target/stamp/$2 2>&1)" != "$sum" ]; then
+    rm -f target/stamp/$2
+    cp %s/$2 target/bin/$2
     if [ -e hangs ]; then
         sleep 600 & echo $! >>provers
         (sleep 600 & echo $! >>provers; wait) & echo $! >>provers
         touch started
         wait
     fi
-    echo "$sum" >target/stamp/jibcradle
+    echo "$sum" >target/stamp/$2
 fi
-echo "rt: jibcradle ran, and wrote what its file 'stdout' has (0 s)"
+echo "rt: $2 ran, and wrote what its file 'stdout' has (0 s)"
 """
 
 
@@ -46,21 +47,23 @@ class Repository:
 
     def __init__(self, bench):
         self.top, self.path = script_of(bench), bench.path("repository")
-        for name in ("jibcradle", "tools/build", "crates.txt", "crates/jibcradle/src/help.rt"):
+        for name in ("jibcradle", "tools/build", "crates.txt", "crates/jibcradle/src/help.rt", "crates/coordinating/src/help.rt"):
             os.makedirs(os.path.dirname(self.file(name)), exist_ok=True)
             shutil.copy(os.path.join(self.top, name), self.file(name))
-        self.crates = crates_in_order(contents(self.file("crates.txt")).decode())
-        self.env = stub(bench, "rt", RT % (" ".join(self.crates), program_of(bench)))
+        listed = contents(self.file("crates.txt")).decode()
+        self.crates, self.coordinators = crates_in_order(listed, "jibcradle"), crates_in_order(listed, "coordinating")
+        built = os.path.dirname(program_of(bench))
+        self.env = stub(bench, "rt", RT % (" ".join(self.coordinators), " ".join(self.crates), built))
         self.script = Program(self.file("jibcradle"))
 
     def file(self, name):
         return os.path.join(self.path, name)
 
-    def builds(self):
-        return contents(self.file("called")).count(b"check jibcradle\n")
+    def builds(self, name="jibcradle"):
+        return contents(self.file("called")).count(b"check %s\n" % name.encode())
 
     def run(self, data, *arguments, **options):
-        return ended(self.script, data, *arguments, env=options.pop("env", self.env), **options)
+        return self.script.ended(data, *arguments, env=options.pop("env", self.env), **options)
 
     def expect_served(self, builds, about):
         status, out, err = self.run(b"standing\n")
@@ -68,9 +71,15 @@ class Repository:
         expect(self.builds() == builds, about, "it was built", self.builds(), "times, and should be", builds)
         return err
 
+    def expect_coordinated(self, builds, about):
+        status, out, err = self.run(b"granted\n", "--coordinator")
+        expect(status == 0 and out == b"0 0 Done 0 0\n", about, "status", status, shown(out), shown(err))
+        expect(self.builds("coordinating") == builds, about, "it was built", self.builds("coordinating"), "times, and should be", builds)
+        return err
 
-def crates_in_order(text):
-    """The crates that the program is built of, as rt proves them: by their depth, and those of one depth as they are reached."""
+
+def crates_in_order(text, program):
+    """The crates that a program is built of, as rt proves them: by their depth, and those of one depth as they are reached."""
     needs, depth = {}, {}
     for line in text.split("\n"):
         name, colon, rest = line.partition("#")[0].partition(":")
@@ -83,7 +92,7 @@ def crates_in_order(text):
             if one not in depth:
                 visit(one)
         depth[name] = 1 + max([depth[one] for one in below], default=-1)
-    visit("jibcradle")
+    visit(program)
     return sorted(depth, key=depth.get)
 
 
@@ -139,7 +148,7 @@ def a_build_that_fails(bench):
 def a_build_without_rt(bench):
     repository = Repository(bench)
     bash = shutil.which("bash")
-    status, out, err = ended(Program(bash), b"standing\n", repository.script.path, env=path_without(bench, "rt"))
+    status, out, err = Program(bash).ended(b"standing\n", repository.script.path, env=path_without(bench, "rt"))
     expect((status, out) == (1, b""), "without rt", status, shown(out))
     expect(err == b"jibcradle: it has to be built first, and the Rattle kit's rt isn't on the PATH\n", "without rt", shown(err))
 
@@ -183,8 +192,9 @@ def expect_ended(repository, process, status, about):
 
 
 def until_started(repository):
+    """The provers are at work, and all three have told their numbers."""
     limit = time.monotonic() + 10
-    while not os.path.exists(repository.file("started")):
+    while not os.path.exists(repository.file("started")) or contents(repository.file("provers")).count(b"\n") < 3:
         expect(time.monotonic() < limit, "the build never starts")
         time.sleep(0.01)
 
@@ -216,13 +226,15 @@ def ended_while_it_builds(bench):
 def words_that_build_nothing(bench):
     repository = Repository(bench)
     for words, status in ((["--help"], 0), (["--version"], 0), (["--what"], 2), (["a", "b"], 2), ([""], 2), (["--records"], 2), (["n" * 4001], 2),
-                          (["\u00e9" * 2001], 2)):
+                          (["\u00e9" * 2001], 2), (["--coordinator", ""], 2), (["--coordinator", "--demo"], 2), (["--coordinator", "a", "b"], 2)):
         got, out, err = repository.run(b"", *words, env=dict(repository.env, LC_ALL="C.UTF-8"))
         expect(got == status, words, "gives status", got, shown(out), shown(err))
     expect(repository.builds() == 0 and not os.path.exists(repository.file("target")), "something was built")
     got, out, _ = repository.run(b"", "--help")
-    texts = re.findall(r'b"(.*)\\n"', contents(repository.file("crates/jibcradle/src/help.rt")).decode())
-    expect(out.startswith(USAGE) and len(out.split(b"\n")) > 10, "--help says", shown(out))
+    texts = ["With --coordinator:"]
+    for name in ("jibcradle", "coordinating"):
+        texts += re.findall(r'b"(.*)\\n"', contents(repository.file("crates/%s/src/help.rt" % name)).decode())
+    expect(out.startswith(USAGE) and len(out.split(b"\n")) > 20, "--help says", shown(out))
     expect(set(out.decode().split("\n")[1:-1]) <= set(texts), "--help says", shown(out))
 
 
@@ -261,3 +273,22 @@ def two_builds_at_once(bench):
     expect(repository.builds() == 1, "it was built", repository.builds(), "times")
     waiting = [err for _, err in said if err == b"jibcradle: waiting for the build that is under way\n"]
     expect(len(waiting) == 2 or b"" in [err for _, err in said], "they say", shown(said))
+
+
+@test
+def each_program_is_built_by_itself(bench):
+    """The coordinator's when it is first asked for, of its own crates, and again where it is old."""
+    repository = Repository(bench)
+    repository.expect_served(1, "the repository's")
+    expect(not os.path.exists(repository.file("target/bin/coordinating")), "the coordinator's was built for the repository's")
+    err = repository.expect_coordinated(1, "the coordinator's")
+    expect(err.decode().split("\n") == progress(repository.coordinators) + [""], "the build says", shown(err))
+    expect(repository.expect_coordinated(1, "then") == b"" and repository.expect_served(1, "then") == b"", "a second start says something")
+    os.remove(repository.file("target/bin/coordinating"))
+    repository.expect_coordinated(2, "with the program removed")
+    repository.expect_served(1, "with the other removed")
+    later = time.time() + 5
+    os.utime(repository.file("crates/coordinating/src/help.rt"), (later, later))
+    repository.expect_coordinated(3, "with a later source")
+    os.utime(repository.file("crates/coordinating/src/help.rt"), (1, 1))
+    expect(repository.expect_coordinated(3, "then") == b"", "a second start says something")

@@ -15,8 +15,8 @@ from on_files import NOBODY, as_nobody
 from running import Failed, contents, expect, put, shown
 
 
-def held_word(path, number):
-    return "%s: process %d has the journal; its lock is %s.lock" % (path, number, path)
+def held_word(path, number, what="the journal"):
+    return "%s: process %d has %s; its lock is %s.lock" % (path, number, what, path)
 
 
 def number_in(path):

@@ -18,7 +18,7 @@ from bench import Skipped, expect_held, expect_unlocked, lines_in, opened, survi
 from on_terminals import until
 from running import PATIENCE, Failed, Program, contents, drained, expect, put, shown
 
-USAGE = b"usage: jibcradle [JOURNAL | --demo | --records JOURNAL | --help | --version]\n"
+USAGE = b"usage: jibcradle [JOURNAL | --coordinator [FILE] | --demo | --records JOURNAL | --help | --version]\n"
 ENDING = (signal.SIGHUP, signal.SIGINT, signal.SIGQUIT, signal.SIGTERM)
 
 
@@ -45,15 +45,8 @@ def program_of(bench):
     return os.path.join(script_of(bench), "target", "bin", "jibcradle")
 
 
-def ended(program, data, *arguments, **options):
-    """Runs to the end: the status, standard output, standard error."""
-    process = program.start(*arguments, **options)
-    out, err = process.communicate(data, timeout=PATIENCE)
-    return process.returncode, out, err
-
-
 def expect_status(bench, wanted, data, *arguments, **options):
-    status, out, err = ended(bench.program, data, *arguments, **options)
+    status, out, err = bench.program.ended(data, *arguments, **options)
     expect(status == wanted, "status", status, "and should be", wanted, "for", shown(arguments), shown(data), shown(out), shown(err))
     return out, err
 
@@ -125,8 +118,10 @@ def help_and_version(bench):
     script_of(bench)
     out, err = expect_status(bench, 0, None, "--help", stdin=subprocess.DEVNULL)
     said, _ = expect_status(bench, 0, b"help\n")
-    expect(out == USAGE + said and err == b"", "--help says", shown(out), "and help", shown(said))
-    expect(len(said) > 500, "help says", shown(said))
+    coordinator, _ = expect_status(bench, 0, b"help\n", "--coordinator")
+    whole = USAGE + said + b"With --coordinator:\n" + coordinator
+    expect(out == whole and err == b"", "--help says", shown(out), "and help", shown(said), shown(coordinator))
+    expect(len(said) > 500 and len(coordinator) > 300, "help says", shown(said), shown(coordinator))
     out, err = expect_status(bench, 0, None, "--version", stdin=subprocess.DEVNULL)
     expect((out, err) == (b"jibcradle 0.1.0, journal version 1\n", b""), "--version says", shown(out), shown(err))
 
@@ -458,6 +453,6 @@ def without_what_the_script_starts_with(bench):
              "an old setpriv": stub(bench, "setpriv", 'echo "setpriv: unrecognized option" >&2; exit 1\n')}
     for turn, (name, env) in enumerate(cases.items()):
         path = bench.path("journal%d" % turn)
-        status, out, err = ended(Program(shutil.which("bash")), b"commit 100 0=7\n", bench.program.path, path, env=env)
+        status, out, err = Program(shutil.which("bash")).ended(b"commit 100 0=7\n", bench.program.path, path, env=env)
         expect(lines_in(out) == [opened(path, 0, 0), "0 23 Done"] and status == 0, name, "gives", status, shown(out), shown(err))
         expect(contents(path) != b"" and not os.path.exists(path + ".lock"), name, "leaves no journal, or a lock")

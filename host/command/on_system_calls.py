@@ -16,20 +16,20 @@ from bench import (
 from running import Failed, contents, expect, put, shown
 
 
-def strace(bench, words, path, data):
+def strace(bench, words, path, data, program=None):
     """Runs the program under strace, which may hold, kill or refuse its system calls. Gives both outputs."""
     if shutil.which("strace") is None:
         raise Skipped("there is no strace here")
-    done = subprocess.run(["strace", *words, bench.bare.path, path], input=data, capture_output=True, timeout=60)
+    done = subprocess.run(["strace", *words, (program or bench.bare).path, path], input=data, capture_output=True, timeout=60)
     if b"ptrace" in done.stderr.lower() and b"permitted" in done.stderr:
         raise Skipped("strace is not permitted here")
     return done.stdout, done.stderr
 
 
-def traced(bench, path, lines):
+def traced(bench, path, lines, program=None):
     """Standard output and all system calls in their order while the lines are served."""
     trace = bench.path("trace")
-    out, _ = strace(bench, ["-s", "64", "-o", trace], path, b"\n".join(lines) + b"\n")
+    out, _ = strace(bench, ["-s", "64", "-o", trace], path, b"\n".join(lines) + b"\n", program)
     return out, contents(trace).decode("latin-1").split("\n")
 
 
@@ -156,9 +156,9 @@ def a_torn_tail_that_cannot_be_kept(bench):
     bench.tell("%d moments" % len(places))
 
 
-def killed_at(bench, path, moment, data):
-    name, count = moment
-    return strace(bench, ["-o", os.devnull, "-e", "trace=" + name, "-e", "inject=%s:signal=KILL:when=%d" % moment], path, data)[0]
+def killed_at(bench, path, moment, data, program=None):
+    words = ["-o", os.devnull, "-e", "trace=" + moment[0], "-e", "inject=%s:signal=KILL:when=%d" % moment]
+    return strace(bench, words, path, data, program)[0]
 
 
 @test

@@ -9,7 +9,7 @@ import model
 from bench import a_journal, answered, expect_held, expect_lines, expect_served, expect_unlocked, lines_in, opened, test
 from running import PATIENCE, contents, expect, put, shown
 
-USAGE = "usage: jibcradle [JOURNAL | --demo | --records JOURNAL | --help | --version]\n"
+USAGE = "usage: jibcradle [JOURNAL | --coordinator [FILE] | --demo | --records JOURNAL | --help | --version]\n"
 
 # ---- known ----
 
@@ -134,7 +134,7 @@ def helped(bench, line):
 def help_names_every_call(bench):
     said = "\n".join(helped(bench, b"help"))
     for name in ("commit", "gossip", "flush", "read", "clock", "now", "standing", "known", "fresh", "help", "cut",
-                 "quit", "exit", "codes"):
+                 "quit", "exit", "codes", "ask", "hear"):
         expect(re.search(r"\b%s\b" % name, said), "help does not mention", name)
 
 

@@ -1,4 +1,4 @@
-# Starting the command, speaking with it line by line, and killing it.
+# Starting a command, speaking with it line by line, and killing it.
 
 import os
 import select
@@ -27,25 +27,40 @@ def shown(data, most=300):
 
 
 class Program:
-    """The program under test, and how to start it."""
+    """The program under test, the words that it always has, and how to start it."""
 
-    def __init__(self, path):
-        self.path = os.path.abspath(path)
+    def __init__(self, path, *words):
+        self.path, self.words = os.path.abspath(path), words
+
+    def built(self, name):
+        """A program that the script starts."""
+        return os.path.join(os.path.dirname(os.path.realpath(self.path)), "target", "bin", name)
+
+    def is_script(self):
+        """A script gives a status; the program that it starts has none."""
+        with open(self.path, "rb") as file:
+            return file.read(2) == b"#!" and os.path.exists(self.built("jibcradle"))
 
     def bare(self):
         """The program that the script starts, without the script: its number is the one we know. A path that is no script
         is the program itself."""
-        built = os.path.join(os.path.dirname(os.path.realpath(self.path)), "target", "bin", "jibcradle")
-        with open(self.path, "rb") as file:
-            return Program(built) if file.read(2) == b"#!" and os.path.exists(built) else self
+        return Program(self.built("jibcradle")) if self.is_script() else self
+
+    def coordinator(self):
+        """The coordinator's command; of a path that is no script, the program beside it."""
+        return Program(self.path, "--coordinator") if self.is_script() else self.bare_coordinator()
+
+    def bare_coordinator(self):
+        beside = os.path.join(os.path.dirname(os.path.realpath(self.path)), "coordinating")
+        return Program(self.built("coordinating") if self.is_script() else beside)
 
     def start(self, *arguments, **options):
         pipes = dict(stdin=subprocess.PIPE, stdout=subprocess.PIPE, stderr=subprocess.PIPE)
         pipes.update(options)
-        return subprocess.Popen([self.path, *arguments], **pipes)
+        return subprocess.Popen([self.path, *self.words, *arguments], **pipes)
 
-    def run(self, data, *arguments, **options):
-        """Feeds all of the data, waits for the end, and gives standard output and standard error."""
+    def ended(self, data, *arguments, **options):
+        """Feeds all of the data, waits for the end, and gives the status, standard output and standard error."""
         process = self.start(*arguments, **options)
         try:
             out, err = process.communicate(data, timeout=PATIENCE)
@@ -53,7 +68,12 @@ class Program:
             process.kill()
             out, err = process.communicate()
             raise Failed("the program did not end; it said", shown(out), shown(err))
-        expect(0 <= process.returncode < 128, "a signal ended the program; its status is", process.returncode, shown(err))
+        return process.returncode, out, err
+
+    def run(self, data, *arguments, **options):
+        """The same, where no signal ends it: gives standard output and standard error."""
+        status, out, err = self.ended(data, *arguments, **options)
+        expect(0 <= status < 128, "a signal ended the program; its status is", status, shown(err))
         return out, err
 
     def killed(self, data, delay, *arguments):

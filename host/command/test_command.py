@@ -1,8 +1,9 @@
-# Tests of the command as a person uses it: lines in, answers out, killed at any moment and started again.
+# Tests of the commands as a person uses them: lines in, answers out, killed at any moment and started again.
 # Run: python3 test_command.py [PROGRAM] [--kills N] [--seed N] [--only TEXT] [--times]
 # The program is the script two folders up where none is named. No test knows more of it than its lines and its files, and that a
 # script's program stands beside it, in target/bin: some tests start that one themselves.
 # A file of calls in lines/ can be tried by hand: jibcradle < NAME.calls.txt | diff - NAME.answers.txt
+# and one of orders: jibcradle --coordinator < NAME.orders.txt | diff - NAME.answers.txt
 
 import argparse
 import os
@@ -27,6 +28,10 @@ import on_terminals
 import on_system_calls
 import on_scripts
 import on_builds
+import on_coordinators
+import on_states
+import on_exchanges
+import on_worlds
 from bench import TESTS, Bench, Skipped
 from running import Failed, Program
 
@@ -72,9 +77,10 @@ def quick_top():
 
 
 def warm_up(program):
-    """The script builds on first use, which may take minutes: not within a test's patience."""
+    """The script builds each program on its first use, which may take minutes: not within a test's patience."""
     try:
         program.start().communicate(b"", timeout=3600)
+        program.coordinator().start().communicate(b"", timeout=3600)
     except (OSError, subprocess.TimeoutExpired) as why:
         sys.exit("FAILED to start the program: %s\ncommand: 0 passed, 1 failed" % why)
 

@@ -3,8 +3,9 @@ use mathlib.Core.Path.{_≡_, refl}
 use mathlib.Core.List.{[], _∷_}
 use lib.IntN.{pos, negsuc}
 use lib.ListN.{replicate}
-use Rattle.model.specs.declared.Answer.the-variants.{Done, Damaged, Late, NoRoom, Version, Malformed}
+use Rattle.model.specs.declared.Answer.the-variants.{Done, Damaged, Late, Gap, NoRoom, Version, Malformed}
 use Rattle.answers.specs.Says.{decimal, text, answerLine, openedLine, pageLine, knownLine, standingLine, faultLine}
+use Rattle.answers.specs.Hex.{bytesLine}
 use Rattle.answers.specs.Records.{commitLine, gossipLine, flushLine, endLine, tornLine, refusalLine}
 
 largest : decimal 18446744073709551615 ≡ text "18446744073709551615"
@@ -51,11 +52,27 @@ many : knownLine (Done 0) 110 120 (replicate 65 10) ≡ text "0 0 Done\n"
 unfolding decimal knownLine
 many = refl
 
+bytes : bytesLine (Done 19) (0 ∷ 17 ∷ 4 ∷ 171 ∷ 255 ∷ []) ≡ text "0 19 Done 001104abff\n"
+unfolding decimal bytesLine
+bytes = refl
+
+nobytes : bytesLine (Gap 120) [] ≡ text "6 120 Gap\n"
+unfolding decimal bytesLine
+nobytes = refl
+
+toomany : bytesLine (Done 0) (replicate 513 0) ≡ text "0 0 Done\n"
+unfolding decimal bytesLine
+toomany = refl
+
 fault : faultLine 3 7 21 ≡ text "? a number of 2^64 or more at line 7 column 21\n"
 unfolding decimal faultLine
 fault = refl
 
-nofault : faultLine 6 1 1 ≡ text "? not a call at line 1 column 1\n"
+oddfault : faultLine 8 2 6 ≡ text "? an odd number of hex digits at line 2 column 6\n"
+unfolding decimal faultLine
+oddfault = refl
+
+nofault : faultLine 9 1 1 ≡ text "? not a call at line 1 column 1\n"
 unfolding decimal faultLine
 nofault = refl
 

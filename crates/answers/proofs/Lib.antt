@@ -1,4 +1,5 @@
 pub mod Decimals
 pub mod Signs
 pub mod Puts
+pub mod Hexes
 pub mod Examples

@@ -1,9 +1,9 @@
 -- Bytes appended one part behind another, and the line that they make.
-use Prim.Native.Nat.{ℕ, _+_, _/_, _%_, _^_, _≤_, _<_}
+use Prim.Native.Nat.{ℕ, zero, suc, _+_, _/_, _%_, _^_, _≤_, _<_}
 use mathlib.Core.Path.{_≡_, refl, sym, ap, _∙_}
 use mathlib.Core.List.{List, [], _∷_, _++_, append-assoc, append-nil}
 use native.Mathlib.Nat.{add-assoc, add-zero}
-use mathlib.Core.Bool.{Bool, true, false}
+use mathlib.Core.Bool.{Bool, true, false, not}
 use borrow.Author.Tests.{eq-eqb, ne-eqb}
 use native.Mathlib.Numerals.{add-one}
 use native.Mathlib.Omega.{arith}
@@ -12,7 +12,8 @@ use lib.Seq.{take-all, take-suc, take-suc-set}
 use Rattle.answers.specs.Parts.{Put}
 use Rattle.answers.specs.Says.{room, Said, text, digit, decimal, spaced, nameOf, answerText, faults, faultText}
 use Rattle.answers.specs.Records.{writeText, writesText}
-use Rattle.model.specs.Lists.{pick, both}
+use Rattle.answers.specs.Hex.{hexPair, hexOf}
+use Rattle.model.specs.Lists.{pick, both, emptyB}
 use Rattle.model.specs.Answers.{codeOf, numberOf, isDone}
 use Rattle.model.specs.declared.Answer.{Answer}
 use Rattle.answers.proofs.Decimals.{decimal-one, decimal-more, decimal-short}
@@ -84,6 +85,18 @@ writes-next os vs i e h p q =
 pub writes-end : {j j₁ : List ℕ} {at at₁ : ℕ} (os vs : List ℕ) (i : ℕ) → length os ≤ i → length vs ≤ i → Put (writesText (take i os) (take i vs)) j at j₁ at₁ → Put (writesText os vs) j at j₁ at₁
 writes-end os vs i h g p = rw (take-all i os h, take-all i vs g) at p
 
+-- ---- the same for bytes in hexadecimal
+hex-after : (bs : List ℕ) (b : ℕ) → hexOf (bs ++ (b ∷ [])) ≡ hexOf bs ++ hexPair b
+hex-after [] b = append-nil (hexPair b)
+hex-after (c ∷ bs) b = ap (λ (l : List ℕ). hexPair c ++ l) (hex-after bs b) ∙ sym (append-assoc (hexPair c) (hexOf bs) (hexPair b))
+
+pub hex-next : {j j₁ j₂ : List ℕ} {at at₁ at₂ : ℕ} (bs : List ℕ) (i : ℕ) → i < length bs → Put (hexOf (take i bs)) j at j₁ at₁
+    → Put (hexPair (getD bs i 0)) j₁ at₁ j₂ at₂ → Put (hexOf (take (i + 1) bs)) j at j₂ at₂
+hex-next bs i h p q = rw (add-one, take-suc bs i 0 h, hex-after) (put-then p q)
+
+pub hex-end : {j j₁ : List ℕ} {at at₁ : ℕ} (bs : List ℕ) (i : ℕ) → length bs ≤ i → Put (hexOf (take i bs)) j at j₁ at₁ → Put (hexOf bs) j at j₁ at₁
+hex-end bs i h p = rw (take-all i bs h) at p
+
 -- ---- what stands there where a test holds, and not where it fails
 pub put-shown : {b : Bool} {xs j j₁ : List ℕ} {at at₁ : ℕ} → b ≡ true → Put xs j at j₁ at₁ → Put (pick b xs []) j at j₁ at₁
 put-shown e p = rw e p
@@ -100,6 +113,14 @@ left-no c e = rw e
 pub right-no : (b : Bool) {c : Bool} → c ≡ false → both b c ≡ false
 right-no true e = e
 right-no false e = refl
+
+pub has-none : (bs : List ℕ) → length bs ≡ 0 → not (emptyB bs) ≡ false
+has-none [] h = refl
+has-none (b ∷ bs) h = absurd (omega arith)
+
+pub has-some : (bs : List ℕ) → (length bs ≡ 0 → ⊥) → not (emptyB bs) ≡ true
+has-some [] h = absurd (h refl)
+has-some (b ∷ bs) h = refl
 
 module _ (a : Answer) {k : ℕ} (e : k ≡ codeOf a) where
   pub answer-all : {n : ℕ} {j j₁ j₂ j₃ j₄ : List ℕ} {at at₁ at₂ at₃ at₄ : ℕ} → n ≡ numberOf a → Put (decimal k) j at j₁ at₁ → Put (text " " ++ decimal n) j₁ at₁ j₂ at₂
@@ -119,11 +140,20 @@ put-as e p = rw e at p
 pub named : {a b : Answer} {j j₁ : List ℕ} {at at₁ : ℕ} → a ≡ b → Put (nameOf b) j at j₁ at₁ → length (nameOf b) ≤ 15 → Put (nameOf a) j at j₁ at₁ × (at₁ ≤ at + 15)
 named e p h = (rw e p, omega (arith, p .count))
 
-pub faulted : {n m : ℕ} {j j₁ : List ℕ} {at at₁ : ℕ} → n ≡ m → Put (faultText m) j at j₁ at₁ → length (faultText m) ≤ 24 → Put (faultText n) j at j₁ at₁ × (at₁ ≤ at + 24)
+pub faulted : {n m : ℕ} {j j₁ : List ℕ} {at at₁ : ℕ} → n ≡ m → Put (faultText m) j at j₁ at₁ → length (faultText m) ≤ 27 → Put (faultText n) j at j₁ at₁ × (at₁ ≤ at + 27)
 faulted e p h = (rw e p, omega (arith, p .count))
 
-pub fault-other : {n : ℕ} {j j₁ : List ℕ} {at at₁ : ℕ} → Put (text "not a call") j at j₁ at₁ → 6 ≤ n → Put (faultText n) j at j₁ at₁ × (at₁ ≤ at + 24)
-fault-other p h = (rw (List·getD-eq-default faults (text "not a call") h) p, omega (arith, p .count))
+-- a number that is none of those below k
+abbrev pub NoneBelow : ℕ → ℕ → Type 0
+NoneBelow zero n = Unit
+NoneBelow (suc k) n = NoneBelow k n × (n ≡ k → ⊥)
+
+none-below : (k n : ℕ) → NoneBelow k n → k ≤ n
+none-below zero n h = omega arith
+none-below (suc k) n h = let ih = none-below k n (h .0) in omega (arith, h .1)
+
+pub fault-other : {n : ℕ} {j j₁ : List ℕ} {at at₁ : ℕ} → Put (text "not a call") j at j₁ at₁ → NoneBelow 9 n → Put (faultText n) j at j₁ at₁ × (at₁ ≤ at + 27)
+fault-other {n} p h = (rw (List·getD-eq-default faults (text "not a call") (none-below 9 n h)) p, omega (arith, p .count))
 
 -- ---- from the front on: the whole line
 pub said : {line j j₁ : List ℕ} {r : ℕ} → Put line j 0 j₁ r → Said line j₁ r

@@ -1,3 +1,4 @@
 pub mod Says
 pub mod Parts
 pub mod Records
+pub mod Hex

@@ -120,6 +120,9 @@ faults =
     ∷ text "a number of 2^64 or more"
     ∷ text "`=` is missing"
     ∷ text "a word too many"
+    ∷ text "no hex digit"
+    ∷ text "more than 1024 hex digits"
+    ∷ text "an odd number of hex digits"
     ∷ []
 
 abbrev pub faultText : ℕ → List ℕ

@@ -1,9 +1,11 @@
 // What the keeper's command says of each call: whole lines, each written at the front of lent bytes.
+mod hex;
 mod put;
 pub mod records;
 
 use model::Answer;
 use model::Figures;
+ghost use Rattle.answers.specs.Hex.{bytesLine};
 ghost use Rattle.answers.specs.Says.{Said, answerLine, openedLine, pageLine, knownLine, standingLine, faultLine};
 
 // How many bytes are lent.
@@ -41,6 +43,16 @@ pub fn known_line(
     put::lent(*out);
     let a = put::answered(out, 0, answer);
     let b = put::known(out, a, answer, horizon, last, stamps);
+    put::bytes(out, b, b"\n")
+}
+
+// The same, and behind it the bytes in hexadecimal where there are any and at most 512.
+pub fn bytes_line(answer: Answer, bytes: &[u8], out: &mut [u8; ROOM]) -> usize
+    ensures { λ r. ⌜ Said (bytesLine answer (now (bytes .entry))) (now (out .exit)) r ⌝ }
+{
+    put::lent(*out);
+    let a = put::answered(out, 0, answer);
+    let b = hex::shown(out, a, bytes);
     put::bytes(out, b, b"\n")
 }
 

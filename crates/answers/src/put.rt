@@ -196,8 +196,8 @@ pub fn standing(out: &mut [u8; ROOM], at: usize, answer: Answer, f: Figures) -> 
 
 // What is wrong with a line that is no call.
 pub fn fault(out: &mut [u8; ROOM], at: usize, number: u64) -> usize
-    requires { ⌜ (length (now out) ≡ room) × (at + 24 ≤ room) ⌝ }
-    ensures { λ r. ⌜ Put (faultText number) (now (out .entry)) at (now (out .exit)) r × (r ≤ at + 24) ⌝ }
+    requires { ⌜ (length (now out) ≡ room) × (at + 27 ≤ room) ⌝ }
+    ensures { λ r. ⌜ Put (faultText number) (now (out .entry)) at (now (out .exit)) r × (r ≤ at + 27) ⌝ }
 {
     match number {
         0 => bytes(out, at, b"no such call"),
@@ -206,6 +206,9 @@ pub fn fault(out: &mut [u8; ROOM], at: usize, number: u64) -> usize
         3 => bytes(out, at, b"a number of 2^64 or more"),
         4 => bytes(out, at, b"`=` is missing"),
         5 => bytes(out, at, b"a word too many"),
+        6 => bytes(out, at, b"no hex digit"),
+        7 => bytes(out, at, b"more than 1024 hex digits"),
+        8 => bytes(out, at, b"an odd number of hex digits"),
         _ => bytes(out, at, b"not a call"),
     }
 }

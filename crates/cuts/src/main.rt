@@ -98,7 +98,36 @@ fn night() {
     cut(b"item 13, first ", &journal, 0);
 }
 
+// Document 02, request [1]: a request is no record of a journal.
+fn request() {
+    let journal = [
+        1u8,
+        0,
+        17,
+        4,
+        0,
+        0,
+        0,
+        0,
+        0,
+        0,
+        0,
+        0,
+        0,
+        0,
+        0,
+        0,
+        0,
+        0,
+        2,
+        88,
+    ];
+    cut(b"request, first ", &journal, 19);
+    cut(b"request, first ", &journal, 20);
+}
+
 fn main() {
     small();
     night();
+    request();
 }

@@ -5,6 +5,7 @@ use crate::torn;
 use crate::trouble;
 ghost use Prim.Native.Nat.{_+_, _≤_};
 ghost use lib.ListN.{length};
+ghost use Rattle.io.specs.Counts.{Counts};
 
 // A place as C counts it. No place in a journal lies beyond these.
 fn offset(at: usize) -> i64 {
@@ -60,6 +61,16 @@ pub fn opened(path: &[u8]) -> i32 {
 pub enum Whole {
     Bytes(usize),
     Failed,
+}
+
+// How many of the bytes were read: none where reading failed.
+pub fn count(whole: Whole, bytes: &[u8]) -> usize
+    ensures { λ r. ⌜ Counts r (now (bytes .entry)) ⌝ }
+{
+    match whole {
+        Whole::Bytes(n) => paths::within(n, bytes),
+        Whole::Failed => paths::within(0, bytes),
+    }
 }
 
 fn read_behind(file: i32, journal: &mut [u8], at: usize) -> isize
@@ -131,6 +142,10 @@ fn is_written(file: i32, bytes: &[u8], from: usize) -> bool {
     true
 }
 
+pub fn say_changed(path: &[u8]) {
+    trouble::say(path, b"another program has changed it");
+}
+
 // The file ends where the journal did, so that nobody else has written it.
 fn is_ours(path: &[u8], file: i32, end: usize) -> bool {
     let found = libc::lseek(file, 0, libc::SEEK_END);
@@ -139,10 +154,17 @@ fn is_ours(path: &[u8], file: i32, end: usize) -> bool {
         return false;
     }
     if found != offset(end) {
-        trouble::say(path, b"another program has changed it");
+        say_changed(path);
         return false;
     }
     true
+}
+
+pub fn say_moved(path: &[u8]) {
+    trouble::say(
+        path,
+        b"the open file is no longer at this name; nothing more is written",
+    );
 }
 
 // The name still leads to the open file. Records in a file without a name would be lost.
@@ -152,10 +174,7 @@ fn is_there(path: &[u8], file: i32) -> bool {
     if identity::is_same(held, named) {
         return true;
     }
-    trouble::say(
-        path,
-        b"the open file is no longer at this name; nothing more is written",
-    );
+    say_moved(path);
     false
 }
 
@@ -177,6 +196,16 @@ pub fn is_saved(path: &[u8], file: i32, journal: &[u8], old: usize, new: usize) 
     os::fail(path);
     libc::ftruncate(file, offset(old));
     false
+}
+
+// The bytes go into a file that was just made, for good, and it is closed.
+pub fn is_filled(name: &[u8], file: i32, bytes: &[u8]) -> bool {
+    let done = io::write_all(file, bytes) && libc::fsync(file) == 0;
+    if !done {
+        os::fail(name);
+    }
+    libc::close(file);
+    done
 }
 
 // What came of a new file in the place of the old one, which is kept as JOURNAL.old.

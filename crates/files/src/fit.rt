@@ -1,4 +1,4 @@
-// Whether a name can be a journal's, before anything is made for it.
+// Whether a name can be that of a file to be kept, before anything is made for it.
 use crate::identity;
 use crate::paths;
 use crate::trouble;
@@ -13,11 +13,12 @@ fn is_in_a_folder(path: &[u8]) -> bool {
     os::errno() != libc::ENOENT
 }
 
-// If not, there was a word on standard error.
-pub fn is_fit(path: &[u8]) -> bool {
+// `what` is what the file should be, as `a journal`. If it can't, there was a word on standard error.
+pub fn is_fit(path: &[u8], what: &[u8]) -> bool {
     let there = identity::of_name(path);
     if identity::is_folder(there) {
-        trouble::say(path, b"it is a folder, not a journal");
+        trouble::begin(path, b"it is a folder, not ");
+        trouble::end(what);
         return false;
     }
     if there.found {

@@ -7,12 +7,15 @@ use libc::types::stat;
 use libc::types::timespec;
 ghost use Rattle.libc.specs.Io.{Ended};
 
-// Which file it is: its device and its number there; and its mode, whose bits libc::S_IFMT say what kind of thing it is. Where it
-// isn't found, the numbers mean nothing.
+// Which file it is: its device and its number there; how many names it has; whose it is; and its mode, whose bits libc::S_IFMT say
+// what kind of thing it is. Where it isn't found, the numbers mean nothing.
 pub struct Identity {
     pub found: bool,
     pub device: u64,
     pub number: u64,
+    pub names: u64,
+    pub owner: u32,
+    pub group: u32,
     pub mode: u32,
 }
 
@@ -22,6 +25,9 @@ const UNKNOWN: Identity = Identity {
     found: false,
     device: 0,
     number: 0,
+    names: 0,
+    owner: 0,
+    group: 0,
     mode: 0,
 };
 
@@ -55,6 +61,9 @@ fn seen(told: Told) -> Identity {
         found: told.status == 0,
         device: room.st_dev,
         number: room.st_ino,
+        names: room.st_nlink,
+        owner: room.st_uid,
+        group: room.st_gid,
         mode: room.st_mode,
     }
 }
@@ -116,4 +125,8 @@ pub fn is_folder(a: Identity) -> bool {
 
 pub fn is_link(a: Identity) -> bool {
     a.found && a.mode & libc::S_IFMT == libc::S_IFLNK
+}
+
+pub fn is_plain(a: Identity) -> bool {
+    a.found && a.mode & libc::S_IFMT == libc::S_IFREG
 }

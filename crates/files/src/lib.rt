@@ -1,4 +1,4 @@
-// The journal's file: its bytes there for good, and the lock that keeps other programs off it.
+// Files that are kept: their bytes there for good, and the lock that keeps other programs off them.
 pub mod file;
 pub mod fit;
 pub mod holder;
@@ -10,3 +10,4 @@ mod told;
 pub mod torn;
 pub mod trouble;
 mod wait;
+pub mod whole;

@@ -1,4 +1,4 @@
-// The lock: JOURNAL.lock holds the line of the process that has the journal.
+// The lock: JOURNAL.lock holds the line of the process that has the journal. So it is with every file that is kept.
 use crate::file;
 use crate::holder;
 use crate::identity;
@@ -157,20 +157,22 @@ fn say_taken_over(lock: &[u8], process: u64) {
     }
 }
 
-fn say_held(path: &[u8], process: u64, lock: &[u8]) {
+fn say_held(path: &[u8], what: &[u8], process: u64, lock: &[u8]) {
     trouble::begin(path, b"process ");
     trouble::number(process);
-    trouble::more(b" has the journal; its lock is ");
+    trouble::more(b" has ");
+    trouble::more(what);
+    trouble::more(b"; its lock is ");
     trouble::end(lock);
 }
 
-fn is_taken_over(path: &[u8], lock: &[u8]) -> bool {
+fn is_taken_over(path: &[u8], what: &[u8], lock: &[u8]) -> bool {
     let mut line = [0u8; 128];
     let n = awaited(lock, &mut line);
     let held = &line[..n];
     let process = paths::number(held);
     if !is_gone(held) {
-        say_held(path, process, lock);
+        say_held(path, what, process, lock);
         return false;
     }
     if file::is_free(lock) {
@@ -183,8 +185,8 @@ fn is_taken_over(path: &[u8], lock: &[u8]) -> bool {
     is_made(lock)
 }
 
-// The lock is ours. If not, there was a word on standard error.
-pub fn is_taken(path: &[u8]) -> bool {
+// The lock is ours. If not, there was a word on standard error; `what` is how it calls the file, as `the journal`.
+pub fn is_taken(path: &[u8], what: &[u8]) -> bool {
     let mut name = io::buffer();
     let n = paths::joined(path, b".lock", &mut name);
     let lock = &name[..n];
@@ -201,7 +203,7 @@ pub fn is_taken(path: &[u8]) -> bool {
         trouble::say(lock, b"it is a folder, where the lock should be");
         return false;
     }
-    is_taken_over(path, lock)
+    is_taken_over(path, what, lock)
 }
 
 pub fn release(path: &[u8]) {

@@ -39,11 +39,7 @@ fn is_written(name: &[u8], bytes: &[u8]) -> bool {
         os::fail(name);
         return false;
     }
-    let done = io::write_all(file, bytes) && libc::fsync(file) == 0;
-    if !done {
-        os::fail(name);
-    }
-    libc::close(file);
+    let done = file::is_filled(name, file, bytes);
     if done && file::is_named(name) {
         return true;
     }

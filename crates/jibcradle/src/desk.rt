@@ -18,7 +18,13 @@ use tables::Heads;
 use tables::PastTable;
 use tables::PendingTable;
 use tables::Snapshots;
-ghost use Rattle.io.specs.Counts.{Counts};
+use terminal::entries;
+use terminal::hex;
+
+// The bytes of a request, and where a message's curr stands in its bytes.
+const REQUEST: usize = 19;
+
+const CURR: usize = 11;
 
 // What stands between two calls, the tables aside: the journal's file, or -1 in memory, whether another call is taken, and whether
 // all was served so far.
@@ -55,17 +61,6 @@ impl Desk {
             going: false,
             served: true,
         }
-    }
-}
-
-// A count of list entries, and no more than there are.
-fn entries(count: usize, list: &[u64]) -> usize
-    ensures { λ r. ⌜ Counts r (now (list .entry)) ⌝ }
-{
-    if count <= list.len() {
-        count
-    } else {
-        list.len()
     }
 }
 
@@ -164,7 +159,7 @@ fn settled(path: &[u8], journal: &[u8], desk: Desk, done: Changed) -> Desk {
         }
     }
     let heads = done.heads;
-    let given = say::answer(answer);
+    let given = terminal::say::answer(answer);
     if 0 <= desk.file {
         room::tell(path, old.at, new.at);
     }
@@ -182,10 +177,10 @@ fn show_known(known: Knowledge) -> bool {
     let answer = known.answer;
     let stamps = known.stamps;
     let n = entries(known.count as usize, &stamps);
-    say::known(answer, known.horizon, known.last, &stamps[..n])
+    terminal::say::known(answer, known.horizon, known.last, &stamps[..n])
 }
 
-// The three reads, known, and standing. False where the answer could not be given.
+// The three reads, ask, known, and standing. False where the answer could not be given.
 fn show(
     disk: &Disk,
     dated: &Disk,
@@ -251,6 +246,24 @@ fn show(
             );
             say::page(answer, &words)
         }
+        Call::Ask(curr) => {
+            let to = curr;
+            let mut request = [0u8; REQUEST];
+            let answer = exchange::asking::ask(
+                disk,
+                dated,
+                pending,
+                past,
+                snapshots,
+                copies,
+                copied,
+                h,
+                to,
+                &mut request,
+            );
+            let n = terminal::say::written(answer, &request);
+            terminal::say::bytes(answer, &request[..n])
+        }
         Call::Known => {
             let known = reads::known(disk, dated, pending, past, snapshots, copies, copied, h);
             show_known(known)
@@ -264,6 +277,70 @@ fn show(
     }
 }
 
+// The curr of a message: the eight bytes behind its prev.
+fn curr_of(message: &[u8]) -> u64 {
+    if message.len() < CURR + 8 {
+        return 0;
+    }
+    fields::get_be(message, CURR, 8)
+}
+
+// A message that a coordinator wrote. One that starts beyond the horizon is answered with the request for what lies between.
+fn heard(
+    disk: &Disk,
+    dated: &Disk,
+    pending: &PendingTable,
+    past: &mut PastTable,
+    snapshots: &mut Snapshots,
+    copies: &CopyTable,
+    copied: &Copied,
+    journal: &mut [u8],
+    path: &[u8],
+    desk: Desk,
+    bytes: &[u8; lines::hex::ROOM],
+    count: usize,
+) -> Desk {
+    let h = desk.heads;
+    let used = desk.place;
+    let whole = &bytes[..];
+    let n = paths::within(count, whole);
+    let message = &whole[..n];
+    let done = exchange::hearing::hear(
+        disk,
+        dated,
+        pending,
+        past,
+        snapshots,
+        copies,
+        copied,
+        h,
+        journal,
+        used,
+        message,
+    );
+    let answer = done.answer;
+    let Answer::Gap(_) = answer else {
+        return settled(path, journal, desk, done);
+    };
+    let to = curr_of(message);
+    let mut request = [0u8; REQUEST];
+    let asked = exchange::asking::ask(
+        disk,
+        dated,
+        pending,
+        past,
+        snapshots,
+        copies,
+        copied,
+        h,
+        to,
+        &mut request,
+    );
+    let k = terminal::say::written(asked, &request);
+    let said = terminal::say::bytes(answer, &request[..k]);
+    desk.after(said)
+}
+
 // What a cut leads to: a restart from the first bytes, or a refusal that was given or not.
 enum Cut {
     To(usize),
@@ -274,7 +351,7 @@ enum Cut {
 fn cut_to(desk: Desk, to: usize) -> Cut {
     let used = desk.place;
     if 0 <= desk.file {
-        let said = say::text(b"? cut is for a journal in memory\n");
+        let said = terminal::say::text(b"? cut is for a journal in memory\n");
         return Cut::Refused(said);
     }
     if used.at < to {
@@ -289,13 +366,84 @@ fn renewed(started: Started, file: i32) -> Desk {
     let heads = started.heads;
     let place = started.place;
     let answer = started.answer;
-    let given = say::answer(answer);
+    let given = terminal::say::answer(answer);
     Desk {
         heads,
         place,
         file,
         going: given,
         served: given,
+    }
+}
+
+// An empty store. The journal's file is kept, as JOURNAL.old.
+fn fresh(
+    disk: &mut Disk,
+    dated: &mut Disk,
+    pending: &mut PendingTable,
+    past: &mut PastTable,
+    snapshots: &mut Snapshots,
+    copies: &mut CopyTable,
+    copied: &mut Copied,
+    path: &[u8],
+    desk: Desk,
+) -> Desk {
+    let renewal = file::renew(path, desk.file);
+    match renewal {
+        Renewal::File(next) => {
+            let file = next;
+            let started = restart::fresh(disk, dated, pending, past, snapshots, copies, copied);
+            renewed(started, file)
+        }
+        Renewal::Barred => {
+            let said = terminal::say::refused(path, b".old is in the way");
+            desk.after(said)
+        }
+        Renewal::Linked => {
+            let said = terminal::say::refused(
+                path,
+                b" is a link; fresh works under the file's own name",
+            );
+            desk.after(said)
+        }
+        Renewal::Failed => desk.after(false),
+    }
+}
+
+// A store from the first bytes of a journal in memory.
+fn cut_back(
+    disk: &mut Disk,
+    dated: &mut Disk,
+    pending: &mut PendingTable,
+    past: &mut PastTable,
+    snapshots: &mut Snapshots,
+    copies: &mut CopyTable,
+    copied: &mut Copied,
+    journal: &[u8],
+    desk: Desk,
+    count: usize,
+) -> Desk {
+    let cut = cut_to(desk, count);
+    match cut {
+        Cut::To(to) => {
+            let n = paths::within(to, journal);
+            let bytes = &journal[..n];
+            let started = restart::restart(
+                disk,
+                dated,
+                pending,
+                past,
+                snapshots,
+                copies,
+                copied,
+                bytes,
+            );
+            renewed(started, desk.file)
+        }
+        Cut::Refused(said) => {
+            let going = said;
+            desk.after(going)
+        }
     }
 }
 
@@ -327,63 +475,61 @@ pub fn served(
         Call::Wrong(fault, column) => {
             let f = fault;
             let c = column;
-            let said = say::wrong(f, number, c);
+            let said = terminal::say::wrong(f, number, c);
             desk.after(said)
         }
-        Call::Fresh => {
-            let renewal = file::renew(path, desk.file);
-            match renewal {
-                Renewal::File(next) => {
-                    let file = next;
-                    let started = restart::fresh(
-                        disk,
-                        dated,
-                        pending,
-                        past,
-                        snapshots,
-                        copies,
-                        copied,
-                    );
-                    renewed(started, file)
-                }
-                Renewal::Barred => {
-                    let said = say::refused(path, b".old is in the way");
-                    desk.after(said)
-                }
-                Renewal::Linked => {
-                    let said = say::refused(
-                        path,
-                        b" is a link; fresh works under the file's own name",
-                    );
-                    desk.after(said)
-                }
-                Renewal::Failed => desk.after(false),
-            }
-        }
+        Call::Fresh => fresh(
+            disk,
+            dated,
+            pending,
+            past,
+            snapshots,
+            copies,
+            copied,
+            path,
+            desk,
+        ),
         Call::Cut(count) => {
-            let cut = cut_to(desk, count as usize);
-            match cut {
-                Cut::To(to) => {
-                    let n = paths::within(to, journal);
-                    let started = restart::restart(
-                        disk,
-                        dated,
-                        pending,
-                        past,
-                        snapshots,
-                        copies,
-                        copied,
-                        &journal[..n],
-                    );
-                    renewed(started, desk.file)
-                }
-                Cut::Refused(said) => {
-                    let going = said;
-                    desk.after(going)
-                }
-            }
+            let to = count as usize;
+            cut_back(
+                disk,
+                dated,
+                pending,
+                past,
+                snapshots,
+                copies,
+                copied,
+                journal,
+                desk,
+                to,
+            )
         }
-        Call::Read(_, _) | Call::Clock(_, _) | Call::Now(_) | Call::Known | Call::Standing => {
+        Call::Hear(begin, end) => {
+            let from = begin;
+            let to = end;
+            let mut message = [0u8; lines::hex::ROOM];
+            let count = hex::bytes_in(line, from, to, &mut message);
+            heard(
+                disk,
+                dated,
+                pending,
+                past,
+                snapshots,
+                copies,
+                copied,
+                journal,
+                path,
+                desk,
+                &message,
+                count,
+            )
+        }
+        Call::Read(_, _)
+        | Call::Clock(_, _)
+        | Call::Now(_)
+        | Call::Ask(_)
+        | Call::Known
+        | Call::Standing => {
             let said = show(
                 disk,
                 dated,

@@ -1,17 +1,13 @@
-// What `help` prints, and how the program is called.
-use crate::say;
+// What `help` prints.
 use lines::Topic;
-
-pub fn usage() {
-    io::write_all(
-        libc::STDERR_FILENO,
-        b"usage: jibcradle [JOURNAL | --demo | --records JOURNAL | --help | --version]\n",
-    );
-}
+use terminal::say;
 
 fn changes() -> bool {
     say::text(b"commit STAMP OBJECT=VALUE ...   writes of 1 to 16 objects\n")
         && say::text(b"gossip PREV CURR [STAMP ...]    a message of 0 to 16 snapshots\n")
+        && say::text(
+            b"hear HEX                        a message, in hex; a Gap comes with its request\n",
+        )
         && say::text(b"flush PAGE                      pending values to disk\n")
 }
 
@@ -19,6 +15,9 @@ fn reads() -> bool {
     say::text(b"read TIME PAGE                  the page at the last snapshot up to a time\n")
         && say::text(b"clock TICK PAGE                 the same, by a clock tick\n")
         && say::text(b"now PAGE                        the current page\n")
+        && say::text(
+            b"ask CURR                        a request for what the horizon lacks up to CURR\n",
+        )
         && say::text(b"known                           horizon, last commit, all known snapshots\n")
         && say::text(b"standing                        pending, past, snapshots, copies, lag\n")
 }
@@ -69,7 +68,9 @@ fn of_reads() -> bool {
         && say::text(
             b"15 Version         the journal begins with another version: the byte found\n",
         )
-        && say::text(b"16 Malformed       a record of the journal is not well formed: its offset\n")
+        && say::text(
+            b"16 Malformed       a record is not well formed: its offset; hear: no message\n",
+        )
         && say::text(
             b"17 Contradiction   a record that this store would not have written: its offset\n",
         )

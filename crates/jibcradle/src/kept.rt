@@ -2,9 +2,6 @@
 use crate::demo;
 use crate::desk;
 use crate::desk::Desk;
-use crate::input;
-use crate::input::Input;
-use crate::say;
 use files::file;
 use files::file::Whole;
 use files::fit;
@@ -21,12 +18,12 @@ use tables::Heads;
 use tables::PastTable;
 use tables::PendingTable;
 use tables::Snapshots;
+use terminal::input;
+use terminal::input::Input;
+use terminal::say;
 ghost use lib.ListN.{length};
 ghost use Rattle.io.specs.Counts.{Counts};
-ghost use Rattle.jibcradle.specs.Buffers.{Within};
-
-// Turns of the loop over the input: no input lasts so long.
-const TURNS: u64 = 4611686018427387904;
+ghost use Rattle.terminal.specs.Buffers.{Within};
 
 // No store: the program ends.
 fn closed() -> Desk {
@@ -85,17 +82,6 @@ fn begun(path: &[u8], file: i32, whole: Whole, read: &[u8], started: Started) ->
     desk
 }
 
-// The bytes that were read: none where reading failed.
-fn length_of(whole: Whole, journal: &[u8; 65536]) -> usize
-    ensures { λ r. ⌜ Counts r (now (journal .entry)) ⌝ }
-{
-    let bytes = &journal[..];
-    match whole {
-        Whole::Bytes(count) => paths::within(count, bytes),
-        Whole::Failed => paths::within(0, bytes),
-    }
-}
-
 // The bytes that a journal may have. The one more that is read shows a file that is longer.
 fn most(journal: &[u8; 65536]) -> usize
     ensures { λ r. ⌜ Counts r (now (journal .entry)) ⌝ }
@@ -122,7 +108,7 @@ fn run(
 {
     let mut desk = begun;
     let mut input = first;
-    let mut turns = TURNS;
+    let mut turns = input::TURNS;
     while 0 < turns {
         turns -= 1;
         if !desk.going {
@@ -165,7 +151,7 @@ fn serve(path: &[u8], file: i32, source: i32) -> bool {
     let mut copied = [0u64; 2048];
     let mut journal = io::large_buffer();
     let whole = file::read(path, file, &mut journal);
-    let n = length_of(whole, &journal);
+    let n = file::count(whole, &journal);
     let started = restart::restart(
         &mut disk,
         &mut dated,
@@ -200,20 +186,11 @@ fn serve(path: &[u8], file: i32, source: i32) -> bool {
 fn laid(buffer: &mut [u8], source: i32) -> Input
     ensures { λ r. ⌜ Within r (length (now (buffer .exit))) ⌝ }
 {
-    let mut end: usize = 0;
     if source < 0 {
-        end = demo::lay(buffer);
+        let end = demo::lay(buffer);
+        return input::at_start(buffer, source, end);
     }
-    Input {
-        source,
-        start: 0,
-        seen: 0,
-        end,
-        line: 1,
-        passing: false,
-        going: true,
-        failed: false,
-    }
+    input::at_start(buffer, source, 0)
 }
 
 pub fn in_memory() -> bool {
@@ -237,10 +214,10 @@ pub fn in_file(path: &[u8]) -> bool {
     if !say::are_open() {
         return false;
     }
-    if !fit::is_fit(path) {
+    if !fit::is_fit(path, b"a journal") {
         return false;
     }
-    if !lock::is_taken(path) {
+    if !lock::is_taken(path, b"the journal") {
         return false;
     }
     let served = is_served(path);

@@ -3,13 +3,13 @@
 mod demo;
 mod desk;
 mod help;
-mod input;
 mod kept;
 mod records;
 mod say;
-mod under;
 
 use files::paths;
+use terminal::under;
+use terminal::words;
 
 fn main() {
     let mut word = io::buffer();
@@ -23,25 +23,6 @@ fn main() {
     }
     let status = asked_from(3);
     under::tell(status);
-}
-
-// Bad usage is told by the status 2.
-fn misused() -> u64 {
-    help::usage();
-    2
-}
-
-// 0 where all was served, 1 where a file, a lock or a write failed.
-fn status_of(served: bool) -> u64 {
-    if served { 0 } else { 1 }
-}
-
-// A word of the command's own, and never a file: no mistyped option becomes one.
-fn is_name(word: &[u8]) -> bool {
-    if word.len() == 0 {
-        return false;
-    }
-    word[0] != b'-'
 }
 
 // What is to be done with a journal: kept, listed, or its lock taken away after a signal ended the program, which the script asks.
@@ -63,14 +44,10 @@ fn done(path: &[u8], task: Task) -> bool {
 }
 
 fn on_file(path: &[u8], task: Task) -> u64 {
-    if !is_name(path) {
-        return misused();
-    }
-    if paths::LONGEST < path.len() {
-        files::trouble::say(path, b"the name is longer than 4000 bytes");
+    if !words::is_name(path) {
         return 2;
     }
-    status_of(done(path, task))
+    words::status_of(done(path, task))
 }
 
 // The journal that this word names.
@@ -92,14 +69,14 @@ fn asked_by_two(word: &[u8], at: usize) -> u64 {
     if paths::is_same(word, b"--unlock") {
         return on_named(at, Task::Unlock);
     }
-    misused()
+    words::misused()
 }
 
 // What the words from this one on ask for.
 fn asked_from(first: usize) -> u64 {
-    let words = os::arg_count();
-    if words <= first {
-        return status_of(kept::in_memory());
+    let count = os::arg_count();
+    if count <= first {
+        return words::status_of(kept::in_memory());
     }
     let mut word = io::buffer();
     let n = os::arg(first, &mut word);
@@ -107,15 +84,15 @@ fn asked_from(first: usize) -> u64 {
         os::fail(b"the name of the journal");
         return 2;
     }
-    let more = words - first;
+    let more = count - first;
     if more == 2 {
         return asked_by_two(&word[..n], first + 1);
     }
     if more != 1 {
-        return misused();
+        return words::misused();
     }
     if paths::is_same(&word[..n], b"--demo") {
-        return status_of(kept::night());
+        return words::status_of(kept::night());
     }
     on_file(&word[..n], Task::Keep)
 }

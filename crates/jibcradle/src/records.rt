@@ -89,7 +89,7 @@ fn is_read(path: &[u8], opened: i32) -> bool {
 
 // False where the file can't be read or standard output takes no more, after a word on standard error.
 pub fn list(path: &[u8]) -> bool {
-    if !fit::is_fit(path) {
+    if !fit::is_fit(path, b"a journal") {
         return false;
     }
     let opened = os::open_read(path);

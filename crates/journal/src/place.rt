@@ -66,8 +66,7 @@ impl Place {
         d.put_writes(j, objects, values)
     }
 
-    // A message is a gossip record alone, with no version byte before it.
-    pub fn put_gossip(self, j: &mut [u8], prev: u64, curr: u64, stamps: &[u64]) -> Place
+    fn put_gossip(self, j: &mut [u8], prev: u64, curr: u64, stamps: &[u64]) -> Place
         requires { ⌜ (length (now stamps) ≤ 16) × (self .at + (20 + 8 * length (now stamps)) ≤ length (now j)) ⌝ }
         ensures { λ r. ⌜ Moved (encode (gossip prev curr (now (stamps .entry)))) (now (j .entry)) (self .at) (now (j .exit)) (r .at) ⌝ }
     {

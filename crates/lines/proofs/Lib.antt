@@ -2,9 +2,13 @@ pub mod Cases
 pub mod Runs
 pub mod Spans
 pub mod Digits
+pub mod Hexes
 pub mod Same
 pub mod Taking
+pub mod Behind
 pub mod Storing
 pub mod Calling
+pub mod Ordering
+pub mod Placing
 pub mod Printing
 pub mod Examples

@@ -5,10 +5,12 @@ use mathlib.Core.List.{List, [], _∷_, map}
 use lib.ListN.{length, take}
 use Rattle.model.specs.Lists.{pick}
 use Rattle.lines.specs.Words.{Word, words, uncommented}
-use Rattle.lines.specs.Numbers.{numberAt, paired, itemAt}
+use Rattle.lines.specs.Numbers.{itemAt}
+use Rattle.lines.specs.Hex.{Part}
+use Rattle.lines.specs.Behind.{tail, firstNumber, firstTwo, firstHex, firstBytes, closing, ofOne, ofTwo, ofHex}
 use Rattle.lines.specs.Names.{spelt, sameB, nameOf}
 use Rattle.lines.specs.declared.Fault.{Fault}
-use Rattle.lines.specs.declared.Fault.the-variants.{Unknown, Missing, Extra}
+use Rattle.lines.specs.declared.Fault.the-variants.{Unknown}
 use Rattle.lines.specs.declared.Topic.the-variants as topic
 use Rattle.lines.specs.declared.Call.{Call}
 use Rattle.lines.specs.declared.Call.the-variants as call
@@ -28,18 +30,6 @@ use Rattle.lines.specs.declared.names.Double.{Double}
 use Rattle.lines.specs.declared.names.Double.the-variants as double
 use Rattle.lines.specs.declared.lists.Listed.{Listed}
 use Rattle.lines.specs.declared.lists.Listed.the-variants as listed
-
--- ---- the numbers at the front of the words; `end` is the column behind the line
-abbrev pub tail : List Word → List Word
-tail [] = []
-tail (w ∷ ws) = ws
-
-abbrev pub firstNumber : ℕ → List Word → Number
-firstNumber end [] = number.Wrong Missing end
-firstNumber end (w ∷ ws) = numberAt (w .column) (w .bytes)
-
-abbrev pub firstTwo : ℕ → List Word → Item
-firstTwo end ws = paired (firstNumber end ws) (firstNumber end (tail ws))
 
 -- ---- a list of writes or of stamps: all its words are read, the first 17 are kept
 pub record Two : Type 0 where
@@ -71,17 +61,7 @@ counted (bad f column) = listed.Wrong f column
 -- ---- the calls
 -- nothing may stand behind a call
 abbrev pub closed : Call → List Word → Call
-closed c [] = c
-closed c (w ∷ ws) = call.Wrong Extra (w .column)
-
--- a call of one number, of two, and of a list, behind which nothing stands
-abbrev pub ofOne : (ℕ → Call) → Number → List Word → Call
-ofOne f (number.Wrong x column) ws = call.Wrong x column
-ofOne f (number.Value n) ws = closed (f n) ws
-
-abbrev pub ofTwo : (ℕ → ℕ → Call) → Item → List Word → Call
-ofTwo f (item.Wrong x column) ws = call.Wrong x column
-ofTwo f (item.Pair a b) ws = closed (f a b) ws
+closed c ws = closing call.Wrong c ws
 
 abbrev pub ofList : (ℕ → Call) → Listed → Call
 ofList f (listed.Wrong x column) = call.Wrong x column
@@ -98,16 +78,20 @@ abbrev pub singleCall : Single → ℕ → Call
 singleCall single.Flush n = call.Flush n
 singleCall single.Now n = call.Now n
 singleCall single.Cut n = call.Cut n
+singleCall single.Ask n = call.Ask n
 
 abbrev pub doubleCall : Double → ℕ → ℕ → Call
 doubleCall double.Read a b = call.Read a b
 doubleCall double.Clock a b = call.Clock a b
 
 abbrev pub withOne : Single → ℕ → List Word → Call
-withOne s end ws = ofOne (singleCall s) (firstNumber end ws) (tail ws)
+withOne s end ws = ofOne call.Wrong (singleCall s) (firstNumber end ws) (tail ws)
 
 abbrev pub withTwo : Double → ℕ → List Word → Call
-withTwo d end ws = ofTwo (doubleCall d) (firstTwo end ws) (tail (tail ws))
+withTwo d end ws = ofTwo call.Wrong (doubleCall d) (firstTwo end ws) (tail (tail ws))
+
+abbrev pub withHex : ℕ → List Word → Call
+withHex end ws = ofHex call.Wrong call.Hear (firstHex end ws) (tail ws)
 
 -- help on the calls, or on what the next word names
 abbrev pub helped : List Word → Call
@@ -117,24 +101,28 @@ helped (w ∷ ws) =
     (pick (sameB (w .bytes) (spelt "standing")) (closed (call.Help topic.Standing) ws)
     (call.Wrong Unknown (w .column)))
 
--- a call, with the numbers of its list: objects and values of a commit, stamps of a gossip
+-- a call, with the numbers of its list, objects and values of a commit, stamps of a gossip; and with the word behind `hear`
 pub record Parsed : Type 0 where
   pub call : Call
   pub firsts : List ℕ
   pub seconds : List ℕ
+  pub word : List ℕ
 
 abbrev pub plain : Call → Parsed
-plain c = record { call = c; firsts = []; seconds = [] }
+plain c = record { call = c; firsts = []; seconds = []; word = [] }
+
+abbrev pub heard : ℕ → List Word → Parsed
+heard end ws = record { call = withHex end ws; firsts = []; seconds = []; word = firstBytes ws }
 
 -- a commit of its stamp and its writes, a gossip of its two stamps and its list
 abbrev pub commits : Number → Items → Parsed
 commits (number.Wrong f column) r = plain (call.Wrong f column)
 commits (number.Value t) r =
-    record { call = ofList (call.Commit t) (counted r); firsts = map (λ p. p .first) (kept r); seconds = map (λ p. p .second) (kept r) }
+    record { call = ofList (call.Commit t) (counted r); firsts = map (λ p. p .first) (kept r); seconds = map (λ p. p .second) (kept r); word = [] }
 
 abbrev pub gossips : Item → Items → Parsed
 gossips (item.Wrong f column) r = plain (call.Wrong f column)
-gossips (item.Pair prev curr) r = record { call = ofList (call.Gossip prev curr) (counted r); firsts = map (λ p. p .first) (kept r); seconds = [] }
+gossips (item.Pair prev curr) r = record { call = ofList (call.Gossip prev curr) (counted r); firsts = map (λ p. p .first) (kept r); seconds = []; word = [] }
 
 abbrev pub withWrites : ℕ → List Word → Parsed
 withWrites end ws = commits (firstNumber end ws) (items Write (tail ws))
@@ -149,6 +137,7 @@ called name.Gossip column end ws = withStamps end ws
 called (name.Bare b) column end ws = plain (closed (bareCall b) ws)
 called (name.Single s) column end ws = plain (withOne s end ws)
 called (name.Double d) column end ws = plain (withTwo d end ws)
+called name.Hear column end ws = heard end ws
 called name.Help column end ws = plain (helped ws)
 called name.Unknown column end ws = plain (call.Wrong Unknown column)
 
@@ -163,7 +152,7 @@ ofText text = ofWords (length text + 1) (words 1 text)
 unfoldable pub parsed : List ℕ → Parsed
 parsed line = ofText (uncommented line)
 
--- ---- the promise of read_line: the call, and the lists at the front of the two tables
+-- ---- what a call of a line promises: the call, and the lists at the front of the two tables
 abbrev pub Begins : List ℕ → List ℕ → Type 0
 Begins table list = take (length list) table ≡ list
 
@@ -171,3 +160,11 @@ pub record Reading (p : Parsed) (c : Call) (firsts seconds : List ℕ) : Type 0 
   pub answered : c ≡ p .call
   pub first : Begins firsts (p .firsts)
   pub second : Begins seconds (p .seconds)
+
+-- the promise of read_line: that, and that `hear` says where its word stands in the line
+abbrev pub Heard : List ℕ → List ℕ → Call → Type 0
+Heard line word c = (from to : ℕ) → c ≡ call.Hear from to → Part line from to word
+
+pub record ReadLine (line : List ℕ) (c : Call) (firsts seconds : List ℕ) : Type 0 where
+  pub reading : Reading (parsed line) c firsts seconds
+  pub heard : Heard line (parsed line .word) c

@@ -1,4 +1,4 @@
--- "The command", the names of the calls, by how many numbers each takes.
+-- "The command", the names of the calls, by how many numbers each takes; `hear` takes a hex word.
 use Prim.Native.Nat.{ℕ}
 use Prim.Native.Char.{code}
 use Prim.Native.String.{String, [] as none, _∷_ as _then_}
@@ -27,7 +27,9 @@ sameB (x ∷ xs) (y ∷ ys) = both (eqb x y) (sameB xs ys)
 abbrev pub otherName : List ℕ → Name
 otherName w =
     pick (sameB w (spelt "help")) name.Help
-    (pick (sameB w (spelt "cut")) (name.Single single.Cut) name.Unknown)
+    (pick (sameB w (spelt "cut")) (name.Single single.Cut)
+    (pick (sameB w (spelt "ask")) (name.Single single.Ask)
+    (pick (sameB w (spelt "hear")) name.Hear name.Unknown)))
 
 abbrev pub bareName : List ℕ → Name
 bareName w =

@@ -6,15 +6,22 @@ use lib.Dec.{eqb, leb}
 use lib.ListN.{drop}
 use Rattle.model.specs.Lists.{both, either, pick}
 use Rattle.lines.specs.declared.words.Class.{Class}
-use Rattle.lines.specs.declared.words.Class.the-variants.{Gap, Ink, Figure, Text, Left}
+use Rattle.lines.specs.declared.words.Class.the-variants.{Gap, Ink, Figure, Hex, Text, Left}
 
 -- space, tab, carriage return
 abbrev pub blank : ℕ → Bool
 blank b = either (eqb b 32) (either (eqb b 9) (eqb b 13))
 
+abbrev pub between : ℕ → ℕ → ℕ → Bool
+between low high b = both (leb low b) (leb b high)
+
 -- `0` to `9`
 abbrev pub digit : ℕ → Bool
-digit b = both (leb 48 b) (leb b 57)
+digit b = between 48 57 b
+
+-- `0` to `9`, `a` to `f`, `A` to `F`
+abbrev pub hexDigit : ℕ → Bool
+hexDigit b = either (digit b) (either (between 97 102 b) (between 65 70 b))
 
 -- the bytes before the first `#`
 abbrev pub uncommented : List ℕ → List ℕ
@@ -50,10 +57,11 @@ abbrev pub leading : (ℕ → Bool) → List ℕ → ℕ
 leading f [] = 0
 leading f (b ∷ bs) = pick (f b) (suc (leading f bs)) 0
 
--- blank, not blank, a digit, not `#`, not `=`
+-- blank, not blank, a digit, a hex digit, not `#`, not `=`
 abbrev pub ofClass : Class → ℕ → Bool
 ofClass Gap b = blank b
 ofClass Ink b = not (blank b)
 ofClass Figure b = digit b
+ofClass Hex b = hexDigit b
 ofClass Text b = not (eqb b 35)
 ofClass Left b = not (eqb b 61)

@@ -9,29 +9,29 @@ use crate::names::Bare;
 use crate::names::Double;
 use crate::names::Name;
 use crate::names::Single;
+use crate::numbers::Hexed;
 use crate::numbers::Item;
 use crate::numbers::Number;
 use crate::numbers::Row;
 use crate::takes;
+use crate::takes::Rest;
 use crate::words;
 ghost use mathlib.Core.Path.{_≡_};
 ghost use Prim.Native.Nat.{_≤_, _+_};
 ghost use lib.ListN.{length};
 ghost use Rattle.lines.specs.Words.{wordsFrom};
-ghost use Rattle.lines.specs.Lines.{closed, bareCall, singleCall, doubleCall, withOne, withTwo, helped, withWrites, withStamps, called, Reading};
+ghost use Rattle.lines.specs.Lines.{closed, bareCall, singleCall, doubleCall, withOne, withTwo, withHex, helped, withWrites, withStamps, called, Reading};
 
 // The call, where no word is left behind it.
 fn close(text: &[u8], at: usize, call: Call) -> Call
     requires { ⌜ at ≤ length (now text) ⌝ }
     ensures { λ r. ⌜ r ≡ closed call (wordsFrom (now (text .entry)) at) ⌝ }
 {
-    let span = words::next_word(text, at);
-    let from = span.from;
-    let to = span.to;
-    if from == to {
-        return call;
+    let rest = takes::rest_of(text, at);
+    match rest {
+        Rest::Nothing => call,
+        Rest::Word(column) => Call::Wrong(Fault::Extra, column),
     }
-    Call::Wrong(Fault::Extra, from + 1)
 }
 
 fn bare_call(which: Bare) -> Call
@@ -52,6 +52,7 @@ fn single_call(which: Single, n: u64) -> Call
         Single::Flush => Call::Flush(n),
         Single::Now => Call::Now(n),
         Single::Cut => Call::Cut(n),
+        Single::Ask => Call::Ask(n),
     }
 }
 
@@ -101,6 +102,19 @@ fn read_double(text: &[u8], at: usize, which: Double) -> Call
             let call = double_call(which, a, b);
             close(text, next, call)
         }
+    }
+}
+
+fn read_hear(text: &[u8], at: usize) -> Call
+    requires { ⌜ at ≤ length (now text) ⌝ }
+    ensures { λ r. ⌜ r ≡ withHex (length (now (text .entry)) + 1) (wordsFrom (now (text .entry)) at) ⌝ }
+{
+    let taken = takes::take_hex(text, at);
+    let hex = taken.hex;
+    let next = taken.next;
+    match hex {
+        Hexed::Wrong(fault, column) => Call::Wrong(fault, column),
+        Hexed::Part(from, to) => close(text, next, Call::Hear(from, to)),
     }
 }
 
@@ -180,6 +194,7 @@ pub fn read_call(
         Name::Bare(which) => read_bare(text, at, which),
         Name::Single(which) => read_single(text, at, which),
         Name::Double(which) => read_double(text, at, which),
+        Name::Hear => read_hear(text, at),
         Name::Help => read_help(text, at),
         Name::Unknown => Call::Wrong(Fault::Unknown, column),
     }

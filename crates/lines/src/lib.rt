@@ -1,18 +1,21 @@
 // One line of the keeper's command, read as a call. specs/Lines.antt says what each line means.
 mod calls;
+pub mod hex;
 mod lists;
 mod names;
 mod numbers;
+pub mod orders;
 mod takes;
+mod titles;
 mod words;
 
 use crate::words::Class;
 ghost use mathlib.Core.Path.{_≡_};
 ghost use lib.ListN.{length};
-ghost use Rattle.lines.specs.Lines.{ofText, parsed, Reading};
+ghost use Rattle.lines.specs.Lines.{ofText, Reading, ReadLine};
 
 // What is wrong with a line that is no call: no such call, a word is missing, a byte that is no digit, a number of 2^64 or more,
-// a write without its `=`, a word too many.
+// a write without its `=`, a word too many, a byte that is no hex digit, more than 1024 hex digits, an odd number of them.
 pub enum Fault {
     Unknown,
     Missing,
@@ -20,6 +23,9 @@ pub enum Fault {
     Large,
     Equals,
     Extra,
+    Hex,
+    Long,
+    Odd,
 }
 
 // What help is about: the calls, the codes of the answers, the figures of standing.
@@ -29,7 +35,8 @@ pub enum Topic {
     Standing,
 }
 
-// A call with its numbers. Commit has its stamp and how many writes were kept, Gossip its two stamps and how many snapshots were kept.
+// A call with its numbers. Commit has its stamp and how many writes were kept, Gossip its two stamps and how many snapshots were kept,
+// Hear where its hex word begins and ends in the line.
 // A line that is no call is Wrong, with its first fault and the column of that, counted from 1.
 pub enum Call {
     Blank,
@@ -45,6 +52,8 @@ pub enum Call {
     Quit,
     Help(Topic),
     Cut(u64),
+    Ask(u64),
+    Hear(usize, usize),
     Wrong(Fault, usize),
 }
 
@@ -71,7 +80,7 @@ fn read_text(text: &[u8], firsts: &mut [u64; 17], seconds: &mut [u64; 17]) -> Ca
 
 // The call that a line is. The numbers of its list go to `firsts` and `seconds`: objects and values of a commit, stamps of a gossip.
 pub fn read_line(line: &[u8], firsts: &mut [u64; 17], seconds: &mut [u64; 17]) -> Call
-    ensures { λ r. ⌜ Reading (parsed (now (line .entry))) r (now (firsts .exit)) (now (seconds .exit)) ⌝ }
+    ensures { λ r. ⌜ ReadLine (now (line .entry)) r (now (firsts .exit)) (now (seconds .exit)) ⌝ }
 {
     seventeen(*firsts);
     seventeen(*seconds);

@@ -15,6 +15,7 @@ pub enum Single {
     Flush,
     Now,
     Cut,
+    Ask,
 }
 
 // The calls of two numbers.
@@ -29,6 +30,7 @@ pub enum Name {
     Bare(Bare),
     Single(Single),
     Double(Double),
+    Hear,
     Help,
     Unknown,
 }
@@ -57,6 +59,12 @@ fn other_name(word: &[u8]) -> Name
     }
     if same(word, b"cut") {
         return Name::Single(Single::Cut);
+    }
+    if same(word, b"ask") {
+        return Name::Single(Single::Ask);
+    }
+    if same(word, b"hear") {
+        return Name::Hear;
     }
     Name::Unknown
 }

@@ -1,11 +1,15 @@
-// A word of a line as a number, or as two.
+// A word of a line as a number, as two, or as a hex word.
 use crate::Fault;
 use crate::words;
 use crate::words::Class;
 ghost use mathlib.Core.Path.{_≡_};
 ghost use Prim.Native.Nat.{_+_, _-_, _≤_, _<_, _^_};
 ghost use lib.ListN.{length};
+ghost use Rattle.lines.specs.Hex.{hexAt};
 ghost use Rattle.lines.specs.Numbers.{sized, numberAt, paired, valueAt, writeAt, itemAt};
+
+// How many digits a hex word has at most.
+const MOST: usize = 1024;
 
 // A number, or what is wrong and its column.
 pub enum Number {
@@ -16,6 +20,12 @@ pub enum Number {
 // Two numbers, or what is wrong and its column.
 pub enum Item {
     Pair(u64, u64),
+    Wrong(Fault, usize),
+}
+
+// Where a hex word begins and ends in the line, or what is wrong and its column.
+pub enum Hexed {
+    Part(usize, usize),
     Wrong(Fault, usize),
 }
 
@@ -115,4 +125,23 @@ pub fn item_at(word: &[u8], column: usize, row: Row) -> Item
             pair_of(stamp, Number::Value(0))
         }
     }
+}
+
+// The word that begins in this column, as a hex word.
+pub fn hex_at(word: &[u8], column: usize) -> Hexed
+    requires { ⌜ (0 < column) × (column + length (now word) < 2 ^ 64) ⌝ }
+    ensures { λ r. ⌜ r ≡ hexAt column (now (word .entry)) ⌝ }
+{
+    let digits = words::run_of(word, Class::Hex);
+    if digits < word.len() {
+        return Hexed::Wrong(Fault::Hex, column + digits);
+    }
+    if MOST < word.len() {
+        return Hexed::Wrong(Fault::Long, column);
+    }
+    if word.len() % 2 == 1 {
+        return Hexed::Wrong(Fault::Odd, column);
+    }
+    let from = column - 1;
+    Hexed::Part(from, from + word.len())
 }

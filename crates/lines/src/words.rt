@@ -2,14 +2,15 @@
 ghost use mathlib.Core.Path.{_≡_};
 ghost use Prim.Native.Nat.{_≤_};
 ghost use lib.ListN.{length};
-ghost use Rattle.lines.specs.Words.{blank, digit, leading, ofClass};
+ghost use Rattle.lines.specs.Words.{blank, digit, hexDigit, leading, ofClass, between as Words·between};
 ghost use Rattle.lines.specs.Promises.{Next};
 
-// What a byte can be: a blank, no blank, a digit, no `#`, no `=`.
+// What a byte can be: a blank, no blank, a digit, a hex digit, no `#`, no `=`.
 pub enum Class {
     Gap,
     Ink,
     Figure,
+    Hex,
     Text,
     Left,
 }
@@ -32,10 +33,28 @@ fn is_blank(b: u8) -> bool
     b == b'\r'
 }
 
-fn is_digit(b: u8) -> bool
+pub fn between(low: u8, high: u8, b: u8) -> bool
+    ensures { λ r. ⌜ r ≡ Words·between low high b ⌝ }
+{
+    if low <= b { b <= high } else { false }
+}
+
+pub fn is_digit(b: u8) -> bool
     ensures { λ r. ⌜ r ≡ digit b ⌝ }
 {
-    if b'0' <= b { b <= b'9' } else { false }
+    between(b'0', b'9', b)
+}
+
+fn is_hex(b: u8) -> bool
+    ensures { λ r. ⌜ r ≡ hexDigit b ⌝ }
+{
+    if is_digit(b) {
+        return true;
+    }
+    if between(b'a', b'f', b) {
+        return true;
+    }
+    between(b'A', b'F', b)
 }
 
 fn is_of(class: Class, b: u8) -> bool
@@ -45,6 +64,7 @@ fn is_of(class: Class, b: u8) -> bool
         Class::Gap => is_blank(b),
         Class::Ink => !is_blank(b),
         Class::Figure => is_digit(b),
+        Class::Hex => is_hex(b),
         Class::Text => b != b'#',
         Class::Left => b != b'=',
     }

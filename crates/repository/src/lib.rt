@@ -1,5 +1,7 @@
-// What C and Rust call: the whole store is one struct behind a reference, and no table is copied.
+// What C and Rust call: the whole store is one struct behind a reference, and no table is copied. A coordinator is one array of words.
 pub mod changing;
+pub mod coordinating;
+pub mod exchanging;
 pub mod reading;
 pub mod starting;
 pub mod steps;
@@ -32,7 +34,7 @@ pub struct Moved {
     pub place: usize,
 }
 
-// What a read answers: the paper's code and number.
+// What a read, a request and a coordinator's call answer: the paper's code and number.
 #[repr(C)]
 pub struct Reply {
     pub code: u64,

@@ -15,6 +15,7 @@ use tables::Snapshots;
 ghost use mathlib.Core.Path.{_≡_};
 ghost use Rattle.model.specs.Answers.{codeOf, numberOf};
 ghost use Rattle.model.specs.Calls.{commitCall, gossipCall, flushCall};
+ghost use Rattle.model.specs.Exchange as exchanges;
 ghost use Rattle.model.specs.Reads as reads;
 ghost use Rattle.model.specs.Restart as starts;
 ghost use Rattle.tables.specs.Contents.{contents};
@@ -36,7 +37,7 @@ fn moved_to(answer: Answer, place: Place) -> Moved
     }
 }
 
-fn answered(answer: Answer) -> Reply
+pub fn answered(answer: Answer) -> Reply
     ensures { λ r. ⌜ (r .code ≡ codeOf answer) × (r .number ≡ numberOf answer) ⌝ }
 {
     Reply {
@@ -150,6 +151,41 @@ pub fn flush(
         journal,
         Place { at: used },
         page,
+    );
+    let h = c.heads;
+    let answer = c.answer;
+    let place = c.place;
+    let moved = moved_to(answer, place);
+    Step { heads: h, moved }
+}
+
+pub fn hear(
+    disk: &mut Disk,
+    dated: &mut Disk,
+    pending: &mut PendingTable,
+    past: &mut PastTable,
+    snapshots: &mut Snapshots,
+    copies: &mut CopyTable,
+    copied: &mut Copied,
+    heads: Heads,
+    journal: &mut [u8],
+    used: usize,
+    message: &[u8],
+) -> Step
+    ensures { λ r. ⌜ Changed (exchanges.hear (contents (now (disk .entry)) (now (dated .entry)) (now (pending .entry)) (now (past .entry)) (now (snapshots .entry)) (now (copies .entry)) (now (copied .entry)) heads) (now (journal .entry)) used (now (message .entry))) (r .moved) (contents (now (disk .exit)) (now (dated .exit)) (now (pending .exit)) (now (past .exit)) (now (snapshots .exit)) (now (copies .exit)) (now (copied .exit)) (r .heads)) (now (journal .exit)) ⌝ }
+{
+    let c = exchange::hearing::hear(
+        disk,
+        dated,
+        pending,
+        past,
+        snapshots,
+        copies,
+        copied,
+        heads,
+        journal,
+        Place { at: used },
+        message,
     );
     let h = c.heads;
     let answer = c.answer;
@@ -346,4 +382,33 @@ pub fn known(
         count: k.count,
         stamps,
     }
+}
+
+pub fn ask(
+    disk: &Disk,
+    dated: &Disk,
+    pending: &PendingTable,
+    past: &PastTable,
+    snapshots: &Snapshots,
+    copies: &CopyTable,
+    copied: &Copied,
+    heads: Heads,
+    to: u64,
+    buffer: &mut [u8],
+) -> Reply
+    ensures { λ r. ⌜ Shown (exchanges.ask (contents (now (disk .entry)) (now (dated .entry)) (now (pending .entry)) (now (past .entry)) (now (snapshots .entry)) (now (copies .entry)) (now (copied .entry)) heads) to (now (buffer .entry))) r (now (buffer .exit)) ⌝ }
+{
+    let answer = exchange::asking::ask(
+        disk,
+        dated,
+        pending,
+        past,
+        snapshots,
+        copies,
+        copied,
+        heads,
+        to,
+        buffer,
+    );
+    answered(answer)
 }

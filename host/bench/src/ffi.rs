@@ -1,4 +1,4 @@
-//! The proved store as C sees it: its struct, its answers and its calls.
+//! The proved store and coordinator as C sees them: their structs, answers and calls.
 
 /// The tables' counts, the horizon and the last commit.
 #[repr(C)]
@@ -30,6 +30,15 @@ pub struct Store {
     pub heads: Heads,
 }
 
+/// A coordinator: how many stamps are granted, the largest curr sent, the stamps.
+#[repr(C)]
+#[derive(Clone, Debug, PartialEq, Eq)]
+pub struct Coordinator {
+    pub count: u64,
+    pub sent: u64,
+    pub granted: [u64; 64],
+}
+
 /// What a change or a start answers.
 #[repr(C)]
 #[derive(Clone, Copy, Debug, PartialEq, Eq)]
@@ -39,7 +48,7 @@ pub struct Moved {
     pub place: usize,
 }
 
-/// What a read answers.
+/// What a read answers, or a coordinator's call.
 #[repr(C)]
 #[derive(Clone, Copy, Debug, PartialEq, Eq)]
 pub struct Reply {
@@ -113,4 +122,38 @@ extern "C" {
         length: usize,
     ) -> Reply;
     pub fn jibcradle_standing(store: *const Store) -> Report;
+    pub fn jibcradle_ask(store: *const Store, to: u64, buffer: *mut u8, length: usize) -> Reply;
+    pub fn jibcradle_hear(
+        store: *mut Store,
+        journal: *mut u8,
+        length: usize,
+        used: usize,
+        message: *const u8,
+        message_length: usize,
+    ) -> Moved;
+    pub fn jibcradle_grant(state: *mut Coordinator, tick: u64, node: u64) -> Reply;
+    pub fn jibcradle_message(
+        state: *mut Coordinator,
+        prev: u64,
+        clock: u64,
+        buffer: *mut u8,
+        length: usize,
+    ) -> Reply;
+    pub fn jibcradle_serve(
+        state: *mut Coordinator,
+        request: *const u8,
+        request_length: usize,
+        buffer: *mut u8,
+        length: usize,
+    ) -> Reply;
+    pub fn jibcradle_coordinator_keep(
+        state: *const Coordinator,
+        buffer: *mut u8,
+        length: usize,
+    ) -> Reply;
+    pub fn jibcradle_coordinator_restart(
+        state: *mut Coordinator,
+        bytes: *const u8,
+        length: usize,
+    ) -> Reply;
 }

@@ -3,6 +3,7 @@
 //! `--keep FOLDER` keeps callgrind's files.
 
 mod count;
+mod exchange;
 mod ffi;
 mod growth;
 mod rows;

@@ -1,6 +1,7 @@
 //! The rows of the comparison: a state, a call, and the code that it has to answer.
 
-use crate::sides::{ours_from, Call, Lent, Ours, Side, Theirs};
+use crate::exchange;
+use crate::sides::{Call, Lent, Ours, Side, Theirs};
 use crate::states::{build, entries, strangers, Fill, State};
 use crate::workload;
 use std::collections::HashSet;
@@ -17,11 +18,10 @@ pub struct Row {
 }
 
 impl Row {
-    /// The state in both stores, and what the call is lent.
+    /// The state on both sides, and what the call is lent.
     pub fn sides(&self) -> (Ours, Theirs, Lent) {
-        let lent =
-            Lent { journal: self.state.journal.clone(), used: self.state.used, buffer: [0; 16] };
-        (Ours(ours_from(&self.state.store)), Theirs(self.state.store.clone()), lent)
+        let lent = Lent::new(self.state.journal.clone(), self.state.used);
+        (self.state.ours(), self.state.theirs(), lent)
     }
 
     /// Makes the call once on both and tests that they agree in everything.
@@ -39,14 +39,14 @@ impl Row {
 }
 
 /// Collects rows on one state.
-struct On<'a> {
-    rows: &'a mut Vec<Row>,
-    fill: &'static str,
-    state: Rc<State>,
+pub struct On<'a> {
+    pub rows: &'a mut Vec<Row>,
+    pub fill: &'static str,
+    pub state: Rc<State>,
 }
 
 impl On<'_> {
-    fn add(&mut self, name: impl Into<String>, code: u64, call: Call) {
+    pub fn add(&mut self, name: impl Into<String>, code: u64, call: Call) {
         let state = self.state.clone();
         self.rows.push(Row { name: name.into(), fill: self.fill, state, call, code });
     }
@@ -57,9 +57,9 @@ fn commit(state: &State, objects: &[u64]) -> Call {
     Call::Commit { t, objects: objects.to_vec(), values: vec![t ^ 0x5a5a; objects.len()] }
 }
 
-const EMPTY: Fill = Fill { pending: 0, past: 0, snapshots: 0, copies: 0 };
-const HALF: Fill = Fill { pending: 64, past: 128, snapshots: 32, copies: 64 };
-const FULL: Fill = Fill { pending: 128, past: 256, snapshots: 64, copies: 128 };
+pub const EMPTY: Fill = Fill { pending: 0, past: 0, snapshots: 0, copies: 0 };
+pub const HALF: Fill = Fill { pending: 64, past: 128, snapshots: 32, copies: 64 };
+pub const FULL: Fill = Fill { pending: 128, past: 256, snapshots: 64, copies: 128 };
 
 fn three() -> [(&'static str, Fill); 3] {
     [("empty", EMPTY), ("half", HALF), ("full", FULL)]
@@ -83,7 +83,7 @@ fn commits(rows: &mut Vec<Row>) {
 }
 
 /// A message up to a stamp with this many stamps, evenly spread.
-fn message(state: &State, curr: u64, count: u64) -> Call {
+pub fn message(state: &State, curr: u64, count: u64) -> Call {
     let prev = state.store.horizon;
     let step = (curr - prev) / (count + 1);
     let stamps = (1..=count).map(|k| prev + k * step).collect();
@@ -91,8 +91,8 @@ fn message(state: &State, curr: u64, count: u64) -> Call {
 }
 
 /// Where a message ends, as its row says it: behind the horizon or behind the last commit.
-const JUST_PAST: &str = "just past H";
-const FAR_PAST: &str = "past L";
+pub const JUST_PAST: &str = "just past H";
+pub const FAR_PAST: &str = "past L";
 
 /// Messages. One that ends just behind the horizon drops nothing, one that ends behind the last
 /// commit drops the past values that no snapshot wants. With few entries that is most of them.
@@ -107,24 +107,33 @@ fn gossips(rows: &mut Vec<Row>) {
         for (end, count) in ends.into_iter().flat_map(|end| [(end, 0), (end, 16)]) {
             on.message(end, count);
         }
-        let (prev, curr) = (0, state.store.horizon.min(10));
-        on.add("gossip, nothing new", 1, Call::Gossip { prev, curr, stamps: vec![] });
+        on.add("gossip, nothing new", 1, nothing_new(&state));
     }
     let state = Rc::new(build(Fill { pending: 32, ..brim }));
     let far = (FAR_PAST, state.store.last + 100);
     On { rows, fill: "full", state }.message(far, 0);
 }
 
+/// A message that tells nothing new.
+pub fn nothing_new(state: &State) -> Call {
+    Call::Gossip { prev: 0, curr: state.store.horizon.min(10), stamps: vec![] }
+}
+
 impl On<'_> {
     /// A message up to a stamp; the row's name says where that is, and how many past values it drops.
     fn message(&mut self, (end, curr): (&str, u64), count: u64) {
         let call = message(&self.state, curr, count);
+        let dropped = self.dropped(&call);
+        self.add(format!("gossip {count} stamps {end}, drops {dropped}"), 0, call);
+    }
+
+    /// How many past values a message drops.
+    pub fn dropped(&self, call: &Call) -> usize {
         let mut after = self.state.store.clone();
-        if let Call::Gossip { prev, curr, stamps } = &call {
+        if let Call::Gossip { prev, curr, stamps } = call {
             after.gossip(&mut vec![0; 1000], 0, *prev, *curr, stamps);
         }
-        let dropped = self.state.store.past_count - after.past_count;
-        self.add(format!("gossip {count} stamps {end}, drops {dropped}"), 0, call);
+        self.state.store.past_count - after.past_count
     }
 
     /// A flush that does something; the row's name says how much.
@@ -270,6 +279,8 @@ pub fn rows() -> Vec<Row> {
     reads(&mut rows);
     refusals(&mut rows);
     starts(&mut rows);
+    exchange::exchanges(&mut rows);
+    exchange::orders(&mut rows);
     rows
 }
 

@@ -1,7 +1,7 @@
-//! Stores to measure on, each reached by calls from a fresh one.
+//! Stores and coordinators to measure on, each reached by calls from a fresh one.
 
-use crate::sides::Call;
-use independent::Store;
+use crate::sides::{ours_from, ours_from_coordinator, Call, Ours, Theirs};
+use independent::{Coordinator, Store};
 
 /// How many rows each table is to have. Copies come in rounds of 32, past values in rounds of 16.
 #[derive(Clone, Copy, Debug)]
@@ -12,10 +12,12 @@ pub struct Fill {
     pub copies: usize,
 }
 
-/// A store, and the calls that made it: as records in a journal, and as data.
+/// A store, and the calls that made it: as records in a journal, and as data; beside it a
+/// coordinator.
 #[derive(Clone)]
 pub struct State {
     pub store: Box<Store>,
+    pub coordinator: Box<Coordinator>,
     pub journal: Vec<u8>,
     pub used: usize,
     pub calls: Vec<Call>,
@@ -45,8 +47,30 @@ pub fn strangers() -> Vec<u64> {
 
 impl State {
     pub fn fresh() -> State {
-        let store = Box::new(Store::fresh());
-        State { store, journal: vec![0; 65_535], used: 0, calls: Vec::new(), clock: NIGHT }
+        let (store, coordinator) = (Box::new(Store::fresh()), Box::new(Coordinator::fresh()));
+        let journal = vec![0; 65_535];
+        State { store, coordinator, journal, used: 0, calls: Vec::new(), clock: NIGHT }
+    }
+
+    /// A coordinator with this many grants, beside a fresh store.
+    pub fn granting(count: usize) -> State {
+        let mut state = State::fresh();
+        for _ in 0..count {
+            let stamp = state.stamp();
+            assert_eq!(state.coordinator.grant(stamp / 256, stamp % 256), (0, stamp));
+        }
+        state
+    }
+
+    /// It in the proved store and coordinator.
+    pub fn ours(&self) -> Ours {
+        let coordinator = Box::new(ours_from_coordinator(&self.coordinator));
+        Ours { store: ours_from(&self.store), coordinator }
+    }
+
+    /// It in the independent ones.
+    pub fn theirs(&self) -> Theirs {
+        Theirs { store: self.store.clone(), coordinator: self.coordinator.clone() }
     }
 
     /// The next stamp: ticks four apart, of node 7.

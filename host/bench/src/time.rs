@@ -37,14 +37,14 @@ fn clock() -> (u64, f64) {
 }
 
 /// The words that a call changes, with what they were. Putting them back makes the call possible
-/// again. A start needs none of it: it takes any store.
+/// again. A start needs none of it: it takes anything.
 fn undo<S: Side>(side: &mut S, call: &Call, lent: &mut Lent) -> Vec<(usize, u64)> {
-    if matches!(call, Call::Fresh | Call::Restart { .. }) {
+    if call.is_start() {
         return Vec::new();
     }
-    let before = side.words().to_vec();
+    let before = side.words(call).to_vec();
     side.run(call, lent);
-    let words = side.words();
+    let words = side.words(call);
     let changed: Vec<(usize, u64)> =
         (0..words.len()).filter(|&k| words[k] != before[k]).map(|k| (k, before[k])).collect();
     words.copy_from_slice(&before);
@@ -95,7 +95,7 @@ impl<'a, S: Side> Timed<'a, S> {
         self.call();
         let passed = (ticks() - start).saturating_sub(cost);
         self.best = self.best.min(passed as f64 * tick);
-        let words = self.side.words();
+        let words = self.side.words(self.call);
         for &(at, word) in &self.undo {
             words[at] = word;
         }

@@ -1,6 +1,6 @@
 //! Against SQLite: the same commits and the same reads in the same run, with the same results.
 
-use crate::sides::{ours_from, Call, Lent, Ours, Side};
+use crate::sides::{Call, Lent, Ours, Side};
 use crate::sqlite::{version, History};
 use crate::states::State;
 use crate::workload;
@@ -17,8 +17,7 @@ pub struct Effort {
 
 /// A proved store, fresh, with an empty journal.
 fn fresh() -> (Ours, Lent) {
-    let lent = Lent { journal: vec![0; 65_535], used: 0, buffer: [0; 16] };
-    (Ours(ours_from(&State::fresh().store)), lent)
+    (State::fresh().ours(), Lent::new(vec![0; 65_535], 0))
 }
 
 /// Makes a change and moves the place on.

@@ -1,9 +1,9 @@
-//! The functions that are measured: for each call one over the proved store and one over the
-//! independent one. Both take the same arguments, are never inlined and only pass them on, so that
+//! The functions that are measured: for each call one over the proved store or coordinator and one
+//! over the independent one. Both take the same arguments, are never inlined and only pass them on, so that
 //! what they cost besides the call is the same. Callgrind knows them by their names.
 
 use crate::ffi;
-use independent::{Figures, Reply, Store};
+use independent::{Coordinator, Figures, Reply, Store};
 
 #[no_mangle]
 #[inline(never)]
@@ -172,4 +172,118 @@ pub fn measured_ours_restart(store: &mut ffi::Store, journal: &[u8]) -> ffi::Mov
 #[inline(never)]
 pub fn measured_theirs_restart(store: &mut Store, journal: &[u8]) -> Reply {
     store.restart(journal)
+}
+
+#[no_mangle]
+#[inline(never)]
+pub fn measured_ours_ask(store: &ffi::Store, to: u64, buffer: &mut [u8]) -> ffi::Reply {
+    unsafe { ffi::jibcradle_ask(store, to, buffer.as_mut_ptr(), buffer.len()) }
+}
+
+#[no_mangle]
+#[inline(never)]
+pub fn measured_theirs_ask(store: &Store, to: u64, buffer: &mut [u8]) -> (u8, u64) {
+    store.ask(to, buffer)
+}
+
+#[no_mangle]
+#[inline(never)]
+pub fn measured_ours_hear(
+    store: &mut ffi::Store,
+    journal: &mut [u8],
+    used: usize,
+    message: &[u8],
+) -> ffi::Moved {
+    let (j, n) = (journal.as_mut_ptr(), journal.len());
+    unsafe { ffi::jibcradle_hear(store, j, n, used, message.as_ptr(), message.len()) }
+}
+
+#[no_mangle]
+#[inline(never)]
+pub fn measured_theirs_hear(
+    store: &mut Store,
+    journal: &mut [u8],
+    used: usize,
+    message: &[u8],
+) -> Reply {
+    store.hear(journal, used, message)
+}
+
+#[no_mangle]
+#[inline(never)]
+pub fn measured_ours_grant(state: &mut ffi::Coordinator, tick: u64, node: u64) -> ffi::Reply {
+    unsafe { ffi::jibcradle_grant(state, tick, node) }
+}
+
+#[no_mangle]
+#[inline(never)]
+pub fn measured_theirs_grant(state: &mut Coordinator, tick: u64, node: u64) -> (u8, u64) {
+    state.grant(tick, node)
+}
+
+#[no_mangle]
+#[inline(never)]
+pub fn measured_ours_message(
+    state: &mut ffi::Coordinator,
+    prev: u64,
+    clock: u64,
+    buffer: &mut [u8],
+) -> ffi::Reply {
+    unsafe { ffi::jibcradle_message(state, prev, clock, buffer.as_mut_ptr(), buffer.len()) }
+}
+
+#[no_mangle]
+#[inline(never)]
+pub fn measured_theirs_message(
+    state: &mut Coordinator,
+    prev: u64,
+    clock: u64,
+    buffer: &mut [u8],
+) -> (u8, u64) {
+    state.message(prev, clock, buffer)
+}
+
+#[no_mangle]
+#[inline(never)]
+pub fn measured_ours_serve(
+    state: &mut ffi::Coordinator,
+    request: &[u8],
+    buffer: &mut [u8],
+) -> ffi::Reply {
+    let (b, n) = (buffer.as_mut_ptr(), buffer.len());
+    unsafe { ffi::jibcradle_serve(state, request.as_ptr(), request.len(), b, n) }
+}
+
+#[no_mangle]
+#[inline(never)]
+pub fn measured_theirs_serve(
+    state: &mut Coordinator,
+    request: &[u8],
+    buffer: &mut [u8],
+) -> (u8, u64) {
+    state.serve(request, buffer)
+}
+
+#[no_mangle]
+#[inline(never)]
+pub fn measured_ours_keep(state: &ffi::Coordinator, buffer: &mut [u8]) -> ffi::Reply {
+    unsafe { ffi::jibcradle_coordinator_keep(state, buffer.as_mut_ptr(), buffer.len()) }
+}
+
+#[no_mangle]
+#[inline(never)]
+pub fn measured_theirs_keep(state: &Coordinator, buffer: &mut [u8]) -> (u8, u64) {
+    state.keep(buffer)
+}
+
+#[no_mangle]
+#[inline(never)]
+pub fn measured_ours_coordinator_restart(state: &mut ffi::Coordinator, bytes: &[u8]) -> ffi::Reply {
+    unsafe { ffi::jibcradle_coordinator_restart(state, bytes.as_ptr(), bytes.len()) }
+}
+
+#[no_mangle]
+#[inline(never)]
+pub fn measured_theirs_coordinator_restart(state: &mut Coordinator, bytes: &[u8]) -> (u8, u64) {
+    state.restart(bytes)
 }

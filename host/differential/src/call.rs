@@ -29,7 +29,7 @@ pub enum Surviving {
     Bytes(Vec<u8>),
 }
 
-/// One of the ten calls. A page buffer is given by its length.
+/// One of the twelve calls on a store, or one on a coordinator. A buffer is given by its length.
 #[derive(Clone, Debug, PartialEq)]
 pub enum Call {
     Fresh,
@@ -42,10 +42,25 @@ pub enum Call {
     CurrentRead { page: u64, buffer: usize },
     Standing,
     Known,
+    Ask { to: u64, buffer: usize },
+    Hear { lent: Lent, message: Vec<u8> },
+    Order(Order),
 }
 
-/// The names of the calls, in the order of [`Call::kind`].
-pub const KINDS: [&str; 10] = [
+/// One of the six calls on a coordinator.
+#[derive(Clone, Debug, PartialEq)]
+pub enum Order {
+    Fresh,
+    Restart(Vec<u8>),
+    Grant { tick: u64, node: u64 },
+    Message { prev: u64, clock: u64, buffer: usize },
+    Serve { request: Vec<u8>, buffer: usize },
+    Keep { buffer: usize },
+}
+
+/// The names of the calls, in the order of [`Call::kind`]: those on a store, then those on a
+/// coordinator.
+pub const KINDS: [&str; ON_STORES + 6] = [
     "fresh",
     "restart",
     "commit",
@@ -56,7 +71,18 @@ pub const KINDS: [&str; 10] = [
     "current read",
     "standing",
     "known",
+    "ask",
+    "hear",
+    "coordinator fresh",
+    "coordinator restart",
+    "grant",
+    "message",
+    "serve",
+    "keep",
 ];
+
+/// How many of them are on a store.
+pub const ON_STORES: usize = 12;
 
 impl Call {
     /// Which call it is, as an index to [`KINDS`].
@@ -72,6 +98,22 @@ impl Call {
             Call::CurrentRead { .. } => 7,
             Call::Standing => 8,
             Call::Known => 9,
+            Call::Ask { .. } => 10,
+            Call::Hear { .. } => 11,
+            Call::Order(order) => ON_STORES + order.kind(),
+        }
+    }
+}
+
+impl Order {
+    fn kind(&self) -> usize {
+        match self {
+            Order::Fresh => 0,
+            Order::Restart(_) => 1,
+            Order::Grant { .. } => 2,
+            Order::Message { .. } => 3,
+            Order::Serve { .. } => 4,
+            Order::Keep { .. } => 5,
         }
     }
 }

@@ -1,12 +1,13 @@
 //! Calls by chance, made for the store as it stands: mostly ordinary ones, which it accepts, and
 //! ones whose arguments lie at a border or beyond it.
 
-use crate::call::{Call, Lent, Surviving};
+use crate::call::{Call, Lent, Surviving, ON_STORES};
 use crate::chance::Chance;
 use crate::contents::{copies, past, pending, snapshots};
-use crate::journals;
 use crate::moods::Mood;
-use independent::Store;
+use crate::sides::{Post, Side};
+use crate::{journals, orders, records};
+use independent::{Coordinator, Store};
 
 /// Numbers at the borders of what a page, an object or a list may be, in its own or a wider type.
 const PAGES_ASIDE: [u64; 9] = [0, 31, 32, 33, 255, 256, 259, 1 << 32, u64::MAX];
@@ -15,11 +16,21 @@ const LENGTHS: [usize; 9] = [0, 1, 2, 15, 16, 17, 40, 256, 272];
 const STAMPS_ASIDE: [u64; 7] = [0, 1, 255, 256, 1 << 63, u64::MAX - 1, u64::MAX];
 const TICKS_ASIDE: [u64; 5] = [0, (1 << 56) - 1, 1 << 56, (1 << 56) + 1, u64::MAX];
 
-/// The store as it stands, and the run's own journal.
+/// The store as it stands, the run's own journal, and the coordinator beside it.
 pub struct View<'a> {
     pub store: &'a Store,
     pub journal: &'a [u8],
     pub place: usize,
+    pub coordinator: &'a Coordinator,
+    pub post: &'a Post,
+}
+
+impl Side<Store> {
+    /// What the next call may be made for.
+    pub fn view(&self) -> View<'_> {
+        let Side { store, journal, place, coordinator, post } = self;
+        View { store, journal, place: *place, coordinator, post }
+    }
 }
 
 /// The next call of a run in this mood.
@@ -51,7 +62,10 @@ pub fn of_kind(kind: usize, view: &View, mood: &Mood, chance: &mut Chance) -> Ca
             Call::CurrentRead { page, buffer: buffer(mood, chance) }
         }
         8 => Call::Standing,
-        _ => Call::Known,
+        9 => Call::Known,
+        10 => ask(view, mood, chance),
+        11 => hear(view, mood, chance),
+        _ => Call::Order(orders::of_kind(kind - ON_STORES, view.coordinator, mood, chance)),
     }
 }
 
@@ -70,7 +84,7 @@ fn surviving(view: &View, mood: &Mood, chance: &mut Chance) -> Surviving {
 }
 
 /// The journal for a record that takes `room` bytes.
-fn lent(view: &View, room: usize, mood: &Mood, chance: &mut Chance) -> Lent {
+pub fn lent(view: &View, room: usize, mood: &Mood, chance: &mut Chance) -> Lent {
     if !chance.one_in(mood.odd) {
         return Lent::Own;
     }
@@ -146,6 +160,35 @@ fn value(chance: &mut Chance) -> u64 {
 }
 
 fn gossip(view: &View, mood: &Mood, chance: &mut Chance) -> Call {
+    let (prev, curr, stamps) = told(view, mood, chance);
+    let room = 20 + 8 * stamps.len();
+    Call::Gossip { lent: lent(view, room, mood, chance), prev, curr, stamps }
+}
+
+/// A message as bytes; out of the ordinary are also bytes that are none.
+fn hear(view: &View, mood: &Mood, chance: &mut Chance) -> Call {
+    let (prev, curr, stamps) = told(view, mood, chance);
+    let mut message = records::message(prev, curr, &stamps);
+    if chance.one_in(mood.odd) {
+        message = records::altered(&message, chance);
+    }
+    Call::Hear { lent: lent(view, message.len(), mood, chance), message }
+}
+
+fn ask(view: &View, mood: &Mood, chance: &mut Chance) -> Call {
+    let horizon = view.store.horizon;
+    let to = if chance.one_in(mood.odd) {
+        let before = horizon.saturating_sub(1);
+        chance.pick(&[0, horizon / 2, before, before, horizon, u64::MAX])
+    } else {
+        horizon.saturating_add(chance.below(mood.step))
+    };
+    let buffer = if chance.one_in(mood.odd) { chance.index(41) } else { 19 };
+    Call::Ask { to, buffer }
+}
+
+/// The bounds and the stamps of a message.
+fn told(view: &View, mood: &Mood, chance: &mut Chance) -> (u64, u64, Vec<u64>) {
     let horizon = view.store.horizon;
     let ahead = view.store.last.saturating_sub(horizon).saturating_add(mood.step);
     let mut curr = horizon.saturating_add(chance.within(1, ahead.max(1)));
@@ -160,8 +203,7 @@ fn gossip(view: &View, mood: &Mood, chance: &mut Chance) -> Call {
     if chance.one_in(mood.odd) {
         turn_message(view, &mut prev, &mut curr, &mut stamps, chance);
     }
-    let room = 20 + 8 * stamps.len();
-    Call::Gossip { lent: lent(view, room, mood, chance), prev, curr, stamps }
+    (prev, curr, stamps)
 }
 
 /// Snapshots beyond the horizon up to `curr`, ascending, many of them at a stamp of the tables.

@@ -1,8 +1,11 @@
-//! The contents of the two stores, compared and copied. Rows past a count aren't contents; where a
-//! count is over its limit, all rows of its table are.
+//! The contents of the two stores and coordinators, compared and copied. Rows past a count aren't
+//! contents; where a count is over its limit, all rows of its table are.
 
 use crate::chance::Chance;
-use independent::{Copy, Past, Pending, COPIES, PAST, PENDING, SLOTS, SNAPSHOTS};
+use independent::{
+    Coordinator, Copy, Past, Pending, COPIES, GRANTS, PAST, PENDING, SLOTS, SNAPSHOTS,
+};
+use jibcradle::CoordinatorState;
 
 type Reference = independent::Store;
 type Library = jibcradle::Store;
@@ -27,7 +30,29 @@ pub fn copies(store: &Reference) -> &[Copy] {
     &store.copies[..store.copy_count.min(COPIES)]
 }
 
-/// The first thing that the contents differ in.
+/// The stamps that the independent coordinator has granted.
+pub fn granted(coordinator: &Coordinator) -> &[u64] {
+    &coordinator.granted[..coordinator.count.min(GRANTS as u64) as usize]
+}
+
+/// The first thing that the contents of the coordinators differ in.
+pub fn coordinators_differ(reference: &Coordinator, library: &CoordinatorState) -> Option<String> {
+    let (ours, theirs) = ((reference.count, reference.sent), (library.count, library.sent));
+    if ours != theirs {
+        return Some(format!("count and sent: independent {ours:?}, library {theirs:?}"));
+    }
+    rows_differ("granted stamp", granted(reference), library.granted_rows())
+}
+
+/// The library's coordinator with these contents, the rows past its count by chance.
+pub fn to_library_coordinator(of: &Coordinator, chance: &mut Chance) -> Box<CoordinatorState> {
+    let mut made = CoordinatorState { count: of.count, sent: of.sent, granted: [0; GRANTS] };
+    chance.fill(&mut made.granted);
+    made.granted[..granted(of).len()].copy_from_slice(granted(of));
+    Box::new(made)
+}
+
+/// The first thing that the contents of the stores differ in.
 pub fn difference(reference: &Reference, library: &Library) -> Option<String> {
     heads_differ(reference, library)
         .or_else(|| rows_differ("disk value", &reference.disk_values, &library.disk))

@@ -1,4 +1,4 @@
-//! Makes one run after another until the time is over, the calls are made, or the stores differ.
+//! Makes one run after another until the time is over, the calls are made, or the sides differ.
 
 use crate::call::{Call, KINDS};
 use crate::fault::Fault;
@@ -20,7 +20,7 @@ pub struct Driver {
     pub tally: Tally,
 }
 
-/// A run after which the stores differ, or in which they agree on a code that isn't allowed.
+/// A run after which the sides differ, or in which they agree on what may not be.
 pub struct Finding {
     /// The run's number, and that of the last call in it.
     pub run: u64,
@@ -75,7 +75,10 @@ impl Driver {
                 break;
             }
             self.calls += 1;
-            let outcome = self.count(&call, pair.play(&call));
+            let outcome = self.count(&call, pair.play(&call)).and_then(|code| {
+                let broken = run.broken(&pair.view(), &call, code);
+                broken.map_or(Ok(()), |what| Err(Difference::agreed(what)))
+            });
             made.push(call);
             if let Err(difference) = outcome {
                 let (start, call) = (run.start, made.len() - 1);
@@ -91,19 +94,18 @@ impl Driver {
         None
     }
 
-    /// Counts an answer; a code that isn't allowed is a difference from the document.
+    /// Counts an answer; a code that isn't allowed is a difference from the documents.
     fn count(
         &mut self,
         call: &Call,
         outcome: Result<u64, Box<Difference>>,
-    ) -> Result<(), Box<Difference>> {
+    ) -> Result<u64, Box<Difference>> {
         let code = outcome?;
         if self.tally.count(call.kind(), code) {
-            return Ok(());
+            return Ok(code);
         }
         let what = format!("both answer {code} to a {}, which may not be", KINDS[call.kind()]);
-        let (reference, library) = Default::default();
-        Err(Box::new(Difference { what, reference, library }))
+        Err(Difference::agreed(what))
     }
 
     /// The finding made small.

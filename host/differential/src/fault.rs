@@ -1,7 +1,8 @@
-//! Wrong stores, to test the comparison itself: each is the library with one small fault laid on
-//! it. None is laid on it but by the tests and by the flag `--fault`.
+//! Wrong stores and coordinators, to test the comparison itself: each is the library with one small
+//! fault laid on it. None is laid on it but by the tests and by the flag `--fault`.
 
-use crate::call::{Call, Surviving};
+use crate::call::{Call, Order, Surviving};
+use crate::records::curr_of;
 use crate::sides::{Outcome, Side};
 
 /// A fault of the library's side.
@@ -37,10 +38,22 @@ pub enum Fault {
     AheadMissed,
     /// A restart from a journal of 65,535 bytes doesn't see the last.
     LongestCut,
+    /// A message with one byte behind it is heard.
+    TailHeard,
+    /// A store asks for what is up to the stamp before its horizon.
+    AskedBefore,
+    /// A grant is late only when it isn't beyond the last one, whatever was sent.
+    SentMissed,
+    /// What was sent is the curr of the last message, not the largest.
+    LastSent,
+    /// A message of more than sixteen snapshots has the clock stamp as its curr.
+    ClockTold,
+    /// A coordinator of 64 snapshots is kept with another last byte.
+    LastKept,
 }
 
 /// All faults, by name.
-pub const FAULTS: [(&str, Fault); 14] = [
+pub const FAULTS: [(&str, Fault); 20] = [
     ("code", Fault::Code),
     ("number", Fault::Number),
     ("place", Fault::Place),
@@ -55,6 +68,12 @@ pub const FAULTS: [(&str, Fault); 14] = [
     ("late-missed", Fault::LateMissed),
     ("ahead-missed", Fault::AheadMissed),
     ("longest-cut", Fault::LongestCut),
+    ("tail-heard", Fault::TailHeard),
+    ("asked-before", Fault::AskedBefore),
+    ("sent-missed", Fault::SentMissed),
+    ("last-sent", Fault::LastSent),
+    ("clock-told", Fault::ClockTold),
+    ("last-kept", Fault::LastKept),
 ];
 
 type Library = Side<jibcradle::Store>;
@@ -66,9 +85,14 @@ impl Fault {
             return library.play(call);
         }
         let turned = self.turn(library, call);
+        let sent = library.coordinator.sent;
+        if self == Fault::SentMissed && matches!(call, Call::Order(Order::Grant { .. })) {
+            library.coordinator.sent = 0;
+        }
         let mut outcome = library.play(turned.as_ref().unwrap_or(call));
         self.spoil_answer(call, &mut outcome);
         self.spoil_store(call, &outcome, library);
+        self.spoil_coordinator(sent, call, &outcome, library);
         outcome
     }
 
@@ -91,6 +115,17 @@ impl Fault {
                 if bytes.len() == jibcradle::JOURNAL =>
             {
                 bytes.pop();
+            }
+            (Fault::TailHeard, Call::Hear { message, .. }) => {
+                let told = message.first_chunk().map(|length| u16::from_be_bytes(*length))?;
+                if message.len() == 3 + usize::from(told) {
+                    message.pop();
+                }
+            }
+            (Fault::AskedBefore, Call::Ask { to, .. })
+                if to.checked_add(1) == Some(heads.horizon) =>
+            {
+                *to += 1;
             }
             _ => return None,
         }
@@ -117,12 +152,18 @@ impl Fault {
                     known.stamps[63] = 0;
                 }
             }
+            (Fault::ClockTold, Call::Order(Order::Message { clock, .. })) if outcome.code == 0 => {
+                outcome.bytes[11..19].copy_from_slice(&clock.to_be_bytes());
+            }
+            (Fault::LastKept, Call::Order(Order::Keep { .. })) if outcome.number == 522 => {
+                outcome.bytes[521] ^= 1;
+            }
             _ => {}
         }
     }
 
     fn spoil_store(self, call: &Call, outcome: &Outcome, library: &mut Library) {
-        let Side { store, journal, place } = library;
+        let Side { store, journal, place, .. } = library;
         let heads = store.heads;
         match (self, call) {
             _ if outcome.code != 0 => {}
@@ -134,6 +175,17 @@ impl Fault {
             (Fault::LastCopy, Call::Flush { .. }) if heads.copies == 128 => store.copied[2047] ^= 1,
             (Fault::LastPending, Call::Commit { .. }) if heads.pending == 128 => {
                 store.pending[127].first ^= 1;
+            }
+            _ => {}
+        }
+    }
+
+    fn spoil_coordinator(self, sent: u64, call: &Call, outcome: &Outcome, library: &mut Library) {
+        let state = &mut library.coordinator;
+        match (self, call) {
+            (Fault::SentMissed, Call::Order(Order::Grant { .. })) => state.sent = sent,
+            (Fault::LastSent, Call::Order(Order::Message { .. })) if outcome.code == 0 => {
+                state.sent = curr_of(&outcome.bytes).unwrap_or(sent);
             }
             _ => {}
         }

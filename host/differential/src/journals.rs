@@ -2,20 +2,21 @@
 //! ones of any bytes.
 
 use crate::call::Call;
-use crate::calls::{self, View};
+use crate::calls;
 use crate::chance::{self, Chance};
 use crate::moods::Mood;
-use crate::sides::Side;
-use independent::Store;
+use crate::records::{self, changed, framed, COMMIT, FLUSH, GOSSIP, REQUEST};
+use crate::sides::{Post, Side};
+use independent::{Coordinator, Store};
 
 /// The independent store after so many calls in this mood, none of them a start, with a journal of
-/// this length.
+/// this length, beside a fresh coordinator.
 pub fn reach(mood: &Mood, room: usize, most: u64, chance: &mut Chance) -> Side<Store> {
     let journal = chance::bytes(room, chance.next());
-    let mut side = Side { store: Box::new(Store::fresh()), journal, place: 0 };
+    let (store, coordinator) = (Box::new(Store::fresh()), Box::new(Coordinator::fresh()));
+    let mut side = Side { store, journal, place: 0, coordinator, post: Post::default() };
     for _ in 0..most {
-        let view = View { store: &side.store, journal: &side.journal, place: side.place };
-        let call = calls::next(&view, mood, chance);
+        let call = calls::next(&side.view(), mood, chance);
         if !matches!(call, Call::Fresh | Call::Restart(_)) {
             side.play(&call);
         }
@@ -56,20 +57,6 @@ pub fn strange(journal: &[u8], chance: &mut Chance) -> Vec<u8> {
         6 | 7 => torn(journal, chance),
         _ => changed(journal, chance),
     }
-}
-
-/// The journal with a few of its bytes changed.
-fn changed(journal: &[u8], chance: &mut Chance) -> Vec<u8> {
-    let mut bytes = journal.to_vec();
-    if !bytes.is_empty() {
-        for _ in 0..chance.within(1, 2) {
-            let place = chance.index(bytes.len());
-            let byte = bytes[place];
-            let any = chance.next() as u8;
-            bytes[place] = chance.pick(&[any, byte ^ 1, byte.wrapping_add(1), 0, 1, 2, 3, 255]);
-        }
-    }
-    bytes
 }
 
 /// The journal with bytes after it, perhaps up to the longest that is allowed, or one more.
@@ -130,9 +117,10 @@ fn any_record(chance: &mut Chance) -> Vec<u8> {
     let count = chance.pick(&[0, 1, 1, 2, 15, 16, 17]);
     let told = if chance.one_in(12) { chance.next() as u8 } else { count };
     let small = |chance: &mut Chance| chance.below(60).to_be_bytes();
-    let mut record = vec![chance.pick(&[1, 1, 1, 2, 2, 2, 3, 3, 0, 4])];
+    let kinds = [COMMIT, COMMIT, COMMIT, GOSSIP, GOSSIP, GOSSIP, FLUSH, FLUSH, 0, REQUEST, REQUEST];
+    let mut record = vec![chance.pick(&kinds)];
     match record[0] {
-        1 => {
+        COMMIT => {
             record.extend(small(chance));
             record.push(told);
             for _ in 0..count {
@@ -140,7 +128,7 @@ fn any_record(chance: &mut Chance) -> Vec<u8> {
                 record.extend(small(chance));
             }
         }
-        2 => {
+        GOSSIP => {
             let prev = chance.below(30);
             record.extend(prev.to_be_bytes());
             record.extend((prev + chance.below(60)).to_be_bytes());
@@ -148,6 +136,7 @@ fn any_record(chance: &mut Chance) -> Vec<u8> {
             let stamps = prev + 1..=prev + u64::from(count);
             stamps.for_each(|stamp| record.extend(stamp.to_be_bytes()));
         }
+        REQUEST if chance.one_in(2) => record.extend([small(chance), small(chance)].concat()),
         _ => record.push(chance.pick(&[0, 1, 31, 32, 255])),
     }
     record
@@ -155,29 +144,20 @@ fn any_record(chance: &mut Chance) -> Vec<u8> {
 
 /// The record that a change would write, were it accepted; none of a call that writes none.
 fn record(call: &Call) -> Option<Vec<u8>> {
-    let mut record = vec![0, 0];
     match call {
         Call::Commit { stamp, objects, values, .. } => {
-            record.push(1);
-            record.extend(stamp.to_be_bytes());
-            record.push(objects.len() as u8);
+            let mut body = stamp.to_be_bytes().to_vec();
+            body.push(objects.len() as u8);
             for (object, value) in objects.iter().zip(values) {
-                record.extend((*object as u16).to_be_bytes());
-                record.extend(value.to_be_bytes());
+                body.extend((*object as u16).to_be_bytes());
+                body.extend(value.to_be_bytes());
             }
+            Some(framed(COMMIT, &body))
         }
-        Call::Gossip { prev, curr, stamps, .. } => {
-            record.push(2);
-            record.extend([*prev, *curr].map(u64::to_be_bytes).concat());
-            record.push(stamps.len() as u8);
-            stamps.iter().for_each(|stamp| record.extend(stamp.to_be_bytes()));
-        }
-        Call::Flush { page, .. } => record.extend([3, *page as u8]),
-        _ => return None,
+        Call::Gossip { prev, curr, stamps, .. } => Some(records::message(*prev, *curr, stamps)),
+        Call::Flush { page, .. } => Some(framed(FLUSH, &[*page as u8])),
+        _ => None,
     }
-    let length = (record.len() - 2) as u16;
-    record[..2].copy_from_slice(&length.to_be_bytes());
-    Some(record)
 }
 
 /// A journal, and behind it each time the record of one more call, though the store may refuse it.
@@ -185,24 +165,12 @@ pub fn with_one_more(chance: &mut Chance) -> Vec<Vec<u8>> {
     let mood = Mood::by_chance(chance);
     let most = chance.pick(&[20, 300, 600]);
     let side = reach(&mood, 40_000, most, chance);
-    let view = View { store: &side.store, journal: &side.journal, place: side.place };
+    let view = side.view();
     let used = if side.place == 0 { &[1] } else { &side.journal[..side.place] };
+    let request = records::request(side.store.horizon, side.store.horizon);
     (0..30)
         .filter_map(|_| record(&calls::of_kind(chance.pick(&[2, 3, 4]), &view, &mood, chance)))
+        .chain([request])
         .map(|record| [used, &record].concat())
         .collect()
-}
-
-/// All cuts of a journal, and the journal with each of its bytes changed to several values.
-pub fn sweep(journal: &[u8], chance: &mut Chance) -> Vec<Vec<u8>> {
-    let mut all: Vec<Vec<u8>> = (0..=journal.len()).map(|cut| journal[..cut].to_vec()).collect();
-    for (place, &byte) in journal.iter().enumerate() {
-        let any = chance.next() as u8;
-        for to in [any, byte ^ 1, byte ^ 128, byte.wrapping_add(1), byte.wrapping_sub(1), 0, 255] {
-            let mut changed = journal.to_vec();
-            changed[place] = to;
-            all.push(changed);
-        }
-    }
-    all
 }

@@ -1,17 +1,21 @@
-//! Compares the proved store, through its static library, with the independent one: calls by
-//! chance on both, and after each the answers, the journals to the last byte, the page buffers
-//! and all contents of the stores have to be equal. The exit status is 0 only where they are, and
-//! each code that the scope document allows for a call was met.
+//! Compares the proved store and coordinator, through their static library, with the independent
+//! ones: calls by chance on both, and after each the answers, the journals and buffers to the last
+//! byte and all contents have to be equal. The exit status is 0 only where they are, and each code
+//! that the documents allow for a call was met.
 
 mod call;
 mod calls;
 mod chance;
 mod contents;
+mod coordinators;
 mod driver;
+mod faces;
 mod fault;
 mod journals;
 mod moods;
 mod options;
+mod orders;
+mod records;
 mod report;
 mod run;
 mod schedule;
@@ -21,6 +25,7 @@ mod stores;
 mod tally;
 #[cfg(test)]
 mod tests;
+mod worlds;
 
 use driver::Driver;
 use options::{Options, USAGE};
@@ -46,6 +51,8 @@ fn main() -> ExitCode {
     } else if !missing.is_empty() {
         println!("never met: {}", missing.join(", "));
     }
+    let [stores, coordinators] = driver.tally.of_each();
+    println!("{stores} calls on stores, {coordinators} on coordinators");
     println!("differential: {} calls, {differences} differences", driver.calls);
     if differences == 0 && missing.is_empty() {
         ExitCode::SUCCESS

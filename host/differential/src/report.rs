@@ -2,10 +2,10 @@
 //! that has it.
 
 use crate::call::Call;
-use crate::contents::{copies, past, pending, snapshots};
+use crate::contents::{copies, granted, past, pending, snapshots};
 use crate::driver::{Driver, Finding};
 use crate::run::{replay, Difference, Start};
-use independent::Store;
+use independent::{Coordinator, Store};
 
 /// Prints the finding, and its case made small.
 pub fn tell(seed: u64, driver: &Driver, finding: Finding) {
@@ -35,6 +35,17 @@ fn tell_start(start: &Start) {
     let (journal, place) = (&start.journal, start.place);
     let used = &journal[..place.min(journal.len())];
     println!("  journal of {} bytes, place {place}, used bytes {used:02x?}", journal.len());
+    let state = &start.coordinator;
+    if **state == Coordinator::fresh() {
+        println!("  fresh coordinator");
+    } else {
+        println!(
+            "  coordinator: sent {}, {} granted {:?}",
+            state.sent,
+            state.count,
+            granted(state)
+        );
+    }
     let store = &start.store;
     if **store == Store::fresh() {
         println!("  fresh store");

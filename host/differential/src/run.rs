@@ -1,11 +1,11 @@
-//! A run: both stores from one start, call by call, everything compared after each.
+//! A run: both sides from one start, call by call, everything compared after each.
 
 use crate::call::Call;
 use crate::calls::View;
 use crate::chance::Chance;
 use crate::contents;
 use crate::fault::Fault;
-use crate::sides::{Outcome, Side};
+use crate::sides::{Outcome, Post, Side};
 
 /// What both sides of a run start from.
 #[derive(Clone)]
@@ -15,9 +15,10 @@ pub struct Start {
     pub junk: u64,
     pub journal: Vec<u8>,
     pub place: usize,
+    pub coordinator: Box<independent::Coordinator>,
 }
 
-/// Both stores.
+/// Both sides.
 pub struct Pair {
     reference: Side<independent::Store>,
     library: Side<jibcradle::Store>,
@@ -32,22 +33,33 @@ pub struct Difference {
     pub library: Outcome,
 }
 
+impl Difference {
+    /// What may not be, and both sides agree on.
+    pub fn agreed(what: String) -> Box<Difference> {
+        let (reference, library) = Default::default();
+        Box::new(Difference { what, reference, library })
+    }
+}
+
 impl Pair {
-    /// Both stores at their start. The fault is laid on the library's side.
+    /// Both sides at their start. The fault is laid on the library's side.
     pub fn new(start: &Start, fault: Fault) -> Pair {
-        let library = contents::to_library(&start.store, &mut Chance::of(start.junk));
-        let (journal, place) = (start.journal.clone(), start.place);
-        Pair {
-            reference: Side { store: start.store.clone(), journal: journal.clone(), place },
-            library: Side { store: library, journal, place },
-            fault,
-        }
+        let Start { store, junk, journal, place, coordinator } = start.clone();
+        let mut junk = Chance::of(junk);
+        let library = Side {
+            store: contents::to_library(&store, &mut junk),
+            journal: journal.clone(),
+            place,
+            coordinator: contents::to_library_coordinator(&coordinator, &mut junk),
+            post: Post::default(),
+        };
+        let reference = Side { store, journal, place, coordinator, post: Post::default() };
+        Pair { reference, library, fault }
     }
 
     /// What the next call may be made for.
     pub fn view(&self) -> View<'_> {
-        let Side { store, journal, place } = &self.reference;
-        View { store, journal, place: *place }
+        self.reference.view()
     }
 
     /// Makes a call on both sides. The code they agree on, or what they differ in.
@@ -61,14 +73,17 @@ impl Pair {
     }
 
     fn difference(&self, reference: &Outcome, library: &Outcome) -> Option<String> {
+        let (ours, theirs) = (&self.reference, &self.library);
         bytes_differ("lent journal", &reference.strange, &library.strange)
+            .or_else(|| bytes_differ("buffer", &reference.bytes, &library.bytes))
             .or_else(|| (reference != library).then(|| "the answers".to_string()))
-            .or_else(|| bytes_differ("journal", &self.reference.journal, &self.library.journal))
-            .or_else(|| contents::difference(&self.reference.store, &self.library.store))
+            .or_else(|| bytes_differ("journal", &ours.journal, &theirs.journal))
+            .or_else(|| contents::difference(&ours.store, &theirs.store))
+            .or_else(|| contents::coordinators_differ(&ours.coordinator, &theirs.coordinator))
     }
 }
 
-/// Two journals, of one length.
+/// Two journals or buffers, of one length.
 fn bytes_differ(name: &str, reference: &[u8], library: &[u8]) -> Option<String> {
     if reference == library {
         return None;

@@ -1,11 +1,11 @@
-//! Makes a run after which the stores differ shorter, as long as they still do.
+//! Makes a run after which the sides differ shorter, as long as they still do.
 
 use crate::call::Call;
 use crate::fault::Fault;
 use crate::run::{replay, Start};
-use independent::Store;
+use independent::{Coordinator, Store};
 
-/// A run after which the stores differ.
+/// A run after which the sides differ.
 pub struct Case {
     pub start: Start,
     pub calls: Vec<Call>,
@@ -14,12 +14,14 @@ pub struct Case {
     tries: u32,
 }
 
-/// The counts of a store's tables.
-const COUNTS: [fn(&mut Store) -> &mut usize; 4] = [
-    |store| &mut store.pending_count,
-    |store| &mut store.past_count,
-    |store| &mut store.snapshot_count,
-    |store| &mut store.copy_count,
+/// The counts of a start's tables, told and set.
+type Count = (fn(&Start) -> usize, fn(&mut Start, usize));
+const COUNTS: [Count; 5] = [
+    (|start| start.store.pending_count, |start, rows| start.store.pending_count = rows),
+    (|start| start.store.past_count, |start, rows| start.store.past_count = rows),
+    (|start| start.store.snapshot_count, |start, rows| start.store.snapshot_count = rows),
+    (|start| start.store.copy_count, |start, rows| start.store.copy_count = rows),
+    (|start| start.coordinator.count as usize, |start, rows| start.coordinator.count = rows as u64),
 ];
 
 impl Case {
@@ -33,7 +35,7 @@ impl Case {
         case
     }
 
-    /// Takes a smaller start and fewer calls, if the stores still differ.
+    /// Takes a smaller start and fewer calls, if the sides still differ.
     fn take(&mut self, start: Option<Start>, calls: Option<Vec<Call>>) -> bool {
         if self.tries == 0 {
             return false;
@@ -66,10 +68,12 @@ impl Case {
         }
     }
 
-    /// Has the start's journal empty and its disk fresh, or all of its store.
+    /// Has the start's journal empty and its disk fresh, or all of its store, or its coordinator.
     fn clear_start(&mut self) {
         self.take(Some(Start { place: 0, ..self.start.clone() }), None);
         self.take(Some(Start { store: Box::new(Store::fresh()), ..self.start.clone() }), None);
+        let coordinator = Box::new(Coordinator::fresh());
+        self.take(Some(Start { coordinator, ..self.start.clone() }), None);
         let mut start = self.start.clone();
         start.store.disk_values.fill(0);
         start.store.disk_stamps.fill(0);
@@ -78,16 +82,15 @@ impl Case {
 
     /// Drops rows of the start's tables.
     fn shorten_tables(&mut self) {
-        for count in COUNTS {
-            let mut less = *count(&mut self.start.store);
+        for (count, set) in COUNTS {
+            let mut less = count(&self.start);
             while less > 0 {
                 let mut start = self.start.clone();
-                let rows = count(&mut start.store);
-                *rows = rows.saturating_sub(less);
+                set(&mut start, count(&self.start).saturating_sub(less));
                 if !self.take(Some(start), None) {
                     less /= 2;
                 }
-                less = less.min(*count(&mut self.start.store));
+                less = less.min(count(&self.start));
             }
         }
     }

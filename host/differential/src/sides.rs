@@ -1,112 +1,12 @@
-//! The two stores behind one face, and a call made on either.
+//! One of the two sides, a store and a coordinator, and a call made on it.
 
-use crate::call::{Call, Lent, Surviving};
+use crate::call::{Call, Lent, Order, Surviving};
 use crate::chance;
+use crate::faces::{CoordinatorCalls, Journal, StoreCalls};
 use jibcradle::{Knowledge, Moved, Reply, Report, Standing};
 use std::fmt;
 
-/// The ten calls, as both stores have them.
-pub trait Ten {
-    fn fresh(&mut self) -> Moved;
-    fn restart(&mut self, journal: &[u8]) -> Moved;
-    fn commit(&mut self, lent: Journal, t: u64, objects: &[u64], values: &[u64]) -> Moved;
-    fn gossip(&mut self, lent: Journal, prev: u64, curr: u64, stamps: &[u64]) -> Moved;
-    fn flush(&mut self, lent: Journal, page: u64) -> Moved;
-    fn snapshot_read(&self, time: u64, page: u64, buffer: &mut [u64]) -> Reply;
-    fn clock_read(&self, tick: u64, page: u64, buffer: &mut [u64]) -> Reply;
-    fn current_read(&self, page: u64, buffer: &mut [u64]) -> Reply;
-    fn standing(&self) -> Report;
-    fn known(&self) -> Knowledge;
-}
-
-/// A journal lent to a change, and the used length told.
-pub struct Journal<'a> {
-    bytes: &'a mut [u8],
-    used: usize,
-}
-
-impl Ten for jibcradle::Store {
-    fn fresh(&mut self) -> Moved {
-        self.reset()
-    }
-    fn restart(&mut self, journal: &[u8]) -> Moved {
-        self.restart(journal)
-    }
-    fn commit(&mut self, lent: Journal, t: u64, objects: &[u64], values: &[u64]) -> Moved {
-        self.commit(lent.bytes, lent.used, t, objects, values)
-    }
-    fn gossip(&mut self, lent: Journal, prev: u64, curr: u64, stamps: &[u64]) -> Moved {
-        self.gossip(lent.bytes, lent.used, prev, curr, stamps)
-    }
-    fn flush(&mut self, lent: Journal, page: u64) -> Moved {
-        self.flush(lent.bytes, lent.used, page)
-    }
-    fn snapshot_read(&self, time: u64, page: u64, buffer: &mut [u64]) -> Reply {
-        self.snapshot_read(time, page, buffer)
-    }
-    fn clock_read(&self, tick: u64, page: u64, buffer: &mut [u64]) -> Reply {
-        self.clock_read(tick, page, buffer)
-    }
-    fn current_read(&self, page: u64, buffer: &mut [u64]) -> Reply {
-        self.current_read(page, buffer)
-    }
-    fn standing(&self) -> Report {
-        self.standing()
-    }
-    fn known(&self) -> Knowledge {
-        self.known()
-    }
-}
-
-/// The independent store's answer to a change, in the library's type.
-fn moved(reply: independent::Reply) -> Moved {
-    Moved { code: u64::from(reply.code), number: reply.number, place: reply.place }
-}
-
-/// The independent store's answer to a read, in the library's type.
-fn reply((code, number): (u8, u64)) -> Reply {
-    Reply { code: u64::from(code), number }
-}
-
-impl Ten for independent::Store {
-    fn fresh(&mut self) -> Moved {
-        moved(self.reset())
-    }
-    fn restart(&mut self, journal: &[u8]) -> Moved {
-        moved(self.restart(journal))
-    }
-    fn commit(&mut self, lent: Journal, t: u64, objects: &[u64], values: &[u64]) -> Moved {
-        moved(self.commit(lent.bytes, lent.used, t, objects, values))
-    }
-    fn gossip(&mut self, lent: Journal, prev: u64, curr: u64, stamps: &[u64]) -> Moved {
-        moved(self.gossip(lent.bytes, lent.used, prev, curr, stamps))
-    }
-    fn flush(&mut self, lent: Journal, page: u64) -> Moved {
-        moved(self.flush(lent.bytes, lent.used, page))
-    }
-    fn snapshot_read(&self, time: u64, page: u64, buffer: &mut [u64]) -> Reply {
-        reply(self.snapshot_read(time, page, buffer))
-    }
-    fn clock_read(&self, tick: u64, page: u64, buffer: &mut [u64]) -> Reply {
-        reply(self.clock_read(tick, page, buffer))
-    }
-    fn current_read(&self, page: u64, buffer: &mut [u64]) -> Reply {
-        reply(self.current_read(page, buffer))
-    }
-    fn standing(&self) -> Report {
-        let (code, number, figures) = self.standing();
-        let independent::Figures { pending, past, snapshots, copies, lag } = figures;
-        Report { code: u64::from(code), number, pending, past, snapshots, copies, lag }
-    }
-    fn known(&self) -> Knowledge {
-        let (code, number, known) = self.known();
-        let independent::Known { horizon, last, snapshots: stamps, snapshot_count } = known;
-        let count = snapshot_count as u64;
-        Knowledge { code: u64::from(code), number, horizon, last, count, stamps }
-    }
-}
-
-/// All that a call hands back, the run's own journal and the store aside.
+/// All that a call hands back, the run's own journal, the store and the coordinator aside.
 #[derive(Clone, Debug, Default, PartialEq)]
 pub struct Outcome {
     pub code: u64,
@@ -119,6 +19,8 @@ pub struct Outcome {
     pub known: Option<Knowledge>,
     /// The page buffer, of a read.
     pub buffer: Vec<u64>,
+    /// The buffer of bytes, of a call that writes to one.
+    pub bytes: Vec<u8>,
     /// The journal lent, where it isn't the run's own.
     pub strange: Vec<u8>,
 }
@@ -127,6 +29,11 @@ impl Outcome {
     fn moved(moved: Moved) -> Outcome {
         let Moved { code, number, place } = moved;
         Outcome { code, number, place: Some(place), ..Outcome::default() }
+    }
+
+    fn replied(reply: Reply) -> Outcome {
+        let Reply { code, number } = reply;
+        Outcome { code, number, ..Outcome::default() }
     }
 
     fn stood(report: Report) -> Outcome {
@@ -138,6 +45,12 @@ impl Outcome {
     fn knew(known: Knowledge) -> Outcome {
         let Knowledge { code, number, .. } = known;
         Outcome { code, number, known: Some(known), ..Outcome::default() }
+    }
+
+    /// The bytes that were written, where they were: the number says how many.
+    fn written(&self) -> Option<Vec<u8>> {
+        let front = self.bytes.get(..usize::try_from(self.number).ok()?)?;
+        (self.code == 0).then(|| front.to_vec())
     }
 }
 
@@ -157,6 +70,9 @@ impl fmt::Display for Outcome {
         if !self.buffer.is_empty() {
             write!(out, ", buffer {:?}", self.buffer)?;
         }
+        if !self.bytes.is_empty() {
+            write!(out, ", buffer {:02x?}", self.bytes)?;
+        }
         Ok(())
     }
 }
@@ -164,15 +80,33 @@ impl fmt::Display for Outcome {
 /// What is in the first slot of a buffer before a read; each further slot has one more.
 const UNREAD: u64 = 0xB0B0_B0B0_B0B0_B000;
 
-/// One of the two stores, with a journal of its own and its place.
-#[derive(Clone)]
-pub struct Side<S> {
+/// What is in the first byte of a buffer before a call; each further byte has one more.
+const UNWRITTEN: u8 = 0xB0;
+
+/// A buffer of this many bytes, lent to a call.
+fn lend(length: usize, call: impl FnOnce(&mut [u8]) -> Reply) -> Outcome {
+    let mut bytes: Vec<u8> = (0..length).map(|at| UNWRITTEN.wrapping_add(at as u8)).collect();
+    let reply = call(&mut bytes);
+    Outcome { bytes, ..Outcome::replied(reply) }
+}
+
+/// What was written to be carried: messages and requests, oldest first.
+#[derive(Clone, Debug, Default)]
+pub struct Post {
+    pub messages: Vec<Vec<u8>>,
+    pub requests: Vec<Vec<u8>>,
+}
+
+/// One of the two sides: a store with a journal of its own and its place, and a coordinator.
+pub struct Side<S: StoreCalls> {
     pub store: Box<S>,
     pub journal: Vec<u8>,
     pub place: usize,
+    pub coordinator: Box<S::Coordinator>,
+    pub post: Post,
 }
 
-impl<S: Ten> Side<S> {
+impl<S: StoreCalls> Side<S> {
     /// Makes a call.
     pub fn play(&mut self, call: &Call) -> Outcome {
         match call {
@@ -200,7 +134,44 @@ impl<S: Ten> Side<S> {
             }
             Call::Standing => Outcome::stood(self.store.standing()),
             Call::Known => Outcome::knew(self.store.known()),
+            Call::Ask { to, buffer } => {
+                let outcome = lend(*buffer, |bytes| self.store.ask(*to, bytes));
+                self.post.requests.extend(outcome.written());
+                outcome
+            }
+            Call::Hear { lent, message } => {
+                self.change(lent, |store, lent| store.hear(lent, message))
+            }
+            Call::Order(order) => self.order(order),
         }
+    }
+
+    /// Makes a call on the coordinator.
+    fn order(&mut self, order: &Order) -> Outcome {
+        let coordinator = &mut *self.coordinator;
+        match order {
+            Order::Fresh => Outcome::replied(coordinator.fresh()),
+            Order::Restart(bytes) => Outcome::replied(coordinator.restart(bytes)),
+            Order::Grant { tick, node } => Outcome::replied(coordinator.grant(*tick, *node)),
+            Order::Message { prev, clock, buffer } => {
+                self.send(*buffer, |coordinator, bytes| coordinator.message(*prev, *clock, bytes))
+            }
+            Order::Serve { request, buffer } => {
+                self.send(*buffer, |coordinator, bytes| coordinator.serve(request, bytes))
+            }
+            Order::Keep { buffer } => lend(*buffer, |bytes| coordinator.keep(bytes)),
+        }
+    }
+
+    /// Has a message written to a buffer of this length; it goes to the post.
+    fn send(
+        &mut self,
+        length: usize,
+        call: impl FnOnce(&mut S::Coordinator, &mut [u8]) -> Reply,
+    ) -> Outcome {
+        let outcome = lend(length, |bytes| call(&mut self.coordinator, bytes));
+        self.post.messages.extend(outcome.written());
+        outcome
     }
 
     /// Restarts; bytes that are given become the run's own journal, as far as they fit.
@@ -245,7 +216,7 @@ impl<S: Ten> Side<S> {
     /// Reads to a buffer of this length.
     fn read(&self, length: usize, call: impl FnOnce(&S, &mut [u64]) -> Reply) -> Outcome {
         let mut buffer: Vec<u64> = (UNREAD..).take(length).collect();
-        let Reply { code, number } = call(&self.store, &mut buffer);
-        Outcome { code, number, buffer, ..Outcome::default() }
+        let reply = call(&self.store, &mut buffer);
+        Outcome { buffer, ..Outcome::replied(reply) }
     }
 }

@@ -1,10 +1,12 @@
 -- `read_line` meets its contract: the text is the run before the first `#`.
 use Rattle.lines.proofs.Calling.{line-read}
+use Rattle.lines.proofs.Placing.{line-heard}
 use Rattle.lines.proofs.Runs.{run-all}
+use Rattle.lines.specs.Lines.{parsed, Heard}
 use Rattle.lines.specs.declared.words.Class.the-variants.{Text}
 use Rattle.lines.specs.Words.{ofClass}
 use lib.Seq.{length-take-le}
-use mathlib.Core.Path.{sym}
+use mathlib.Core.Path.{sym, subst}
 use borrow.Author.Needs.{needs}
 use Rattle.lines.proofs.read_line.Statement.{statement}
 use Rattle.lines.proofs.read_line.Tie as tie
@@ -27,7 +29,11 @@ read-text-requires : tie.Need-read-text-requires
 read-text-requires c κs = search needs
 
 returns : tie.Need-returns
-returns c = let a = c .before .before .before .before .before .before .before .before .before .before .args in line-read (a .line .now) (c .before .before .before .before .run-of .result) (c .before .before .before .before .run-of .ensures) (c .read-text .ensures)
+returns c =
+    let s : tie.Start = search (c) in
+    let r : tie.After-run-of = search (c) in
+    let e = line-read (s .args .line .now) (r .run-of .result) (r .run-of .ensures) (c .read-text .ensures) in
+    record { reading = e; heard = subst (Heard (s .args .line .now) (parsed (s .args .line .now) .word)) (sym (e .answered)) (line-heard (s .args .line .now)) }
 
 pub read-line-spec : {M : Type 1} → statement M
 read-line-spec =

@@ -47,6 +47,24 @@ slice-aggregate-bytes-7 c = search needs
 bytes-requires-7 : tie.Need-bytes-requires-7
 bytes-requires-7 c κs = search needs
 
+slice-aggregate-bytes-8 : tie.Need-slice-aggregate-bytes-8
+slice-aggregate-bytes-8 c = search needs
+
+bytes-requires-8 : tie.Need-bytes-requires-8
+bytes-requires-8 c κs = search needs
+
+slice-aggregate-bytes-9 : tie.Need-slice-aggregate-bytes-9
+slice-aggregate-bytes-9 c = search needs
+
+bytes-requires-9 : tie.Need-bytes-requires-9
+bytes-requires-9 c κs = search needs
+
+slice-aggregate-bytes-10 : tie.Need-slice-aggregate-bytes-10
+slice-aggregate-bytes-10 c = search needs
+
+bytes-requires-10 : tie.Need-bytes-requires-10
+bytes-requires-10 c κs = search needs
+
 returns : tie.Need-returns
 returns c = faulted (c .before .before .before .match .keys1) (c .bytes .ensures) (omega arith)
 
@@ -66,7 +84,16 @@ returns-6 : tie.Need-returns-6
 returns-6 c = faulted (c .before .before .before .match .keys6) (c .bytes6 .ensures) (omega arith)
 
 returns-7 : tie.Need-returns-7
-returns-7 c = fault-other {n = c .before .before .before .before .args .number} (c .bytes7 .ensures) (omega (arith, c .before .before .before .match .rest))
+returns-7 c = faulted (c .before .before .before .match .keys7) (c .bytes7 .ensures) (omega arith)
+
+returns-8 : tie.Need-returns-8
+returns-8 c = faulted (c .before .before .before .match .keys8) (c .bytes8 .ensures) (omega arith)
+
+returns-9 : tie.Need-returns-9
+returns-9 c = faulted (c .before .before .before .match .keys9) (c .bytes9 .ensures) (omega arith)
+
+returns-10 : tie.Need-returns-10
+returns-10 c = fault-other {n = c .before .before .before .before .args .number} (c .bytes10 .ensures) (c .before .before .before .match .rest)
 
 pub fault-spec : {M : Type 1} → statement M
 fault-spec =
@@ -86,10 +113,19 @@ fault-spec =
     bytes-requires-6
     slice-aggregate-bytes-7
     bytes-requires-7
+    slice-aggregate-bytes-8
+    bytes-requires-8
+    slice-aggregate-bytes-9
+    bytes-requires-9
+    slice-aggregate-bytes-10
+    bytes-requires-10
     returns
     returns-2
     returns-3
     returns-4
     returns-5
     returns-6
-    returns-7)
+    returns-7
+    returns-8
+    returns-9
+    returns-10)

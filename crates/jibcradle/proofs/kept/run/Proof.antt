@@ -1,7 +1,7 @@
 -- The input lies within the buffer; buffer and journal keep their lengths. The measure is the number of turns left.
 use mathlib.Core.Path.{_≡_, _∙_}
 use lib.ListN.{length}
-use Rattle.jibcradle.specs.Buffers.{Within}
+use Rattle.terminal.specs.Buffers.{Within}
 use native.Mathlib.Omega.{arith}
 use borrow.Author.Needs.{needs}
 use Rattle.jibcradle.proofs.kept.run.Statement.{statement}

@@ -1,5 +1,7 @@
 -- `calls::read_single` meets its contract: its number is wrong, or nothing may stand behind it.
-use Rattle.lines.proofs.Calling.{one-wrong, one-value}
+use Rattle.lines.proofs.Behind.{one-wrong, one-value}
+use Rattle.lines.specs.Lines.{singleCall}
+use Rattle.lines.specs.declared.Call.the-variants as call
 use borrow.Author.Needs.{needs}
 use Rattle.lines.proofs.calls.read_single.Statement.{statement}
 use Rattle.lines.proofs.calls.read_single.Tie as tie
@@ -20,12 +22,19 @@ close-requires : tie.Need-close-requires
 close-requires c κs = search needs
 
 returns : tie.Need-returns
-returns c = let a = c .before .before .before .before .before .args in
-    one-wrong (a .text .now) (a .at) (c .before .before .before .take-number .result) (c .before .before .before .take-number .ensures) (c .before .number .given .1) (a .which)
+returns c =
+    let s : tie.Start = search (c) in
+    let t : tie.After-take-number = search (c) in
+    let i : tie.After-number = search (c) in
+    one-wrong call.Wrong (singleCall (s .args .which)) (s .args .text .now) (s .args .at) (t .take-number .result) (t .take-number .ensures) (i .number .given .1)
 
 returns-2 : tie.Need-returns-2
-returns-2 c = let a = c .before .before .before .before .before .before .before .args in
-    one-value (a .text .now) (a .at) (c .before .before .before .before .before .take-number .result) (c .before .before .before .before .before .take-number .ensures) (c .before .before .before .number2 .given .1) (a .which) (c .before .single-call .ensures) (c .close .ensures)
+returns-2 c =
+    let s : tie.Start = search (c) in
+    let t : tie.After-take-number = search (c) in
+    let i : tie.After-number2 = search (c) in
+    let m : tie.After-single-call = search (c) in
+    one-value call.Wrong (singleCall (s .args .which)) (s .args .text .now) (s .args .at) (t .take-number .result) (t .take-number .ensures) (i .number2 .given .1) (m .single-call .ensures) (c .close .ensures)
 
 pub read-single-spec : {M : Type 1} → statement M
 read-single-spec =

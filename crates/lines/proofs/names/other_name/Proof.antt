@@ -1,8 +1,27 @@
 -- `names::other_name` meets its contract: each name that was tried before is another.
-use mathlib.Core.Path.{sym, _∙_}
+use Rattle.lines.specs.Names.{spelt, sameB}
+use mathlib.Core.Path.{_≡_, sym, _∙_}
+use mathlib.Core.Bool.{false}
+use Prim.Native.String.{String}
 use borrow.Author.Needs.{needs}
 use Rattle.lines.proofs.names.other_name.Statement.{statement}
 use Rattle.lines.proofs.names.other_name.Tie as tie
+
+-- the word is not this name
+abbrev Other : tie.Start → String → Type 0
+Other c name = sameB (c .args .word .now) (spelt name) ≡ false
+
+no-help : (c : tie.Else1) → Other (c .before .before .before .before) "help"
+no-help c = sym (c .before .same .ensures) ∙ c .if1 .left
+
+no-cut : (c : tie.Else2) → Other (c .before .before .before .before .before .before .before) "cut"
+no-cut c = sym (c .before .same2 .ensures) ∙ c .if2 .left
+
+no-ask : (c : tie.Else3) → Other (c .before .before .before .before .before .before .before .before .before .before) "ask"
+no-ask c = sym (c .before .same3 .ensures) ∙ c .if3 .left
+
+no-hear : (c : tie.Else4) → Other (c .before .before .before .before .before .before .before .before .before .before .before .before .before) "hear"
+no-hear c = sym (c .before .same4 .ensures) ∙ c .if4 .left
 
 slice-aggregate-same : tie.Need-slice-aggregate-same
 slice-aggregate-same c = search needs
@@ -20,10 +39,28 @@ same-requires-2 : tie.Need-same-requires-2
 same-requires-2 c κs = search needs
 
 returns-2 : tie.Need-returns-2
-returns-2 c = rw (sym (c .before .before .before .before .same .ensures) ∙ c .before .before .before .if1 .left, sym (c .before .same2 .ensures) ∙ c .if2 .taken)
+returns-2 c = rw (no-help (search (c)), sym (c .before .same2 .ensures) ∙ c .if2 .taken)
+
+slice-aggregate-same-3 : tie.Need-slice-aggregate-same-3
+slice-aggregate-same-3 c = search needs
+
+same-requires-3 : tie.Need-same-requires-3
+same-requires-3 c κs = search needs
 
 returns-3 : tie.Need-returns-3
-returns-3 c = rw (sym (c .before .before .before .before .same .ensures) ∙ c .before .before .before .if1 .left, sym (c .before .same2 .ensures) ∙ c .if2 .left)
+returns-3 c = rw (no-help (search (c)), no-cut (search (c)), sym (c .before .same3 .ensures) ∙ c .if3 .taken)
+
+slice-aggregate-same-4 : tie.Need-slice-aggregate-same-4
+slice-aggregate-same-4 c = search needs
+
+same-requires-4 : tie.Need-same-requires-4
+same-requires-4 c κs = search needs
+
+returns-4 : tie.Need-returns-4
+returns-4 c = rw (no-help (search (c)), no-cut (search (c)), no-ask (search (c)), sym (c .before .same4 .ensures) ∙ c .if4 .taken)
+
+returns-5 : tie.Need-returns-5
+returns-5 c = rw (no-help (search (c)), no-cut (search (c)), no-ask (search (c)), no-hear (search (c)))
 
 pub other-name-spec : {M : Type 1} → statement M
 other-name-spec =
@@ -35,4 +72,10 @@ other-name-spec =
     slice-aggregate-same-2
     same-requires-2
     returns-2
-    returns-3)
+    slice-aggregate-same-3
+    same-requires-3
+    returns-3
+    slice-aggregate-same-4
+    same-requires-4
+    returns-4
+    returns-5)
