@@ -1,4 +1,6 @@
+pub mod Calling
 pub mod Lends
+pub mod Lists
 pub mod Locals
 pub mod Opening
 pub mod Parts
