@@ -11,8 +11,8 @@ from bench import (
     picture, put_early, side_by_side, test)
 from on_lines import LINES
 from on_locks import NOBODY_THERE, end_all, gone, held_word, number_in, own_folder, sleeper
-from on_scripts import ENDING, USAGE, expect_status, lives, script_of
-from on_terminals import at_a_terminal, until
+from on_scripts import ENDING, USAGE, expect_ended_by, expect_status, script_of
+from on_terminals import at_a_terminal, expect_typed
 from running import PATIENCE, contents, expect, put, shown
 
 MOST = 2 ** 64 - 1
@@ -386,13 +386,7 @@ def signals_to_a_coordinator(bench):
         talk.line()
         expect(talk.ask("grant 1 1") == "0 257 Done", "not served")
         program = number_in(path)
-        expect(program != talk.pid, "the script became the program, and can give no status")
-        talk.process.send_signal(number)
-        talk.process.wait(timeout=10)
-        expect(talk.process.returncode == 128 + number, "signal", number, "gives status", talk.process.returncode)
-        expect(not lives(program), "the program lives on after signal", number)
-        _, err = talk.end()
-        expect(err == b"", "signal", number, "is followed by", shown(err))
+        expect_ended_by(number, talk, program)
         expect_left(path)
         expect_quietly_kept(bench, path, model.Coordinating(contents(path)))
     before = os.listdir(bench.folder)
@@ -454,16 +448,9 @@ def a_coordinator_on_a_terminal(bench):
     script_of(bench)
     path = bench.path()
     master, process = at_a_terminal(bench, "--coordinator", path)
-    said = until(master, b"> ")
-    expect(said == opened(path, 0, 0).encode() + b"\r\n> ", "the terminal first shows", shown(said))
-    for line, answer in ((b"grant 1 1", b"0 257 Done"), (b"", b""), (b"granted", b"0 0 Done 1 0 257"),
-                         (b"nonsense", b"? no such call at line 4 column 1; help lists them")):
-        os.write(master, line + b"\n")
-        said = until(master, b"> ")
-        expect(said == answer + b"\r\n" * bool(answer) + b"> ", shown(line), "is answered on a terminal with", shown(said))
-    os.write(master, b"\x04")
-    process.wait(timeout=10)
-    os.close(master)
+    expect_typed(master, process, path, (
+        (b"grant 1 1", b"0 257 Done"), (b"", b""), (b"granted", b"0 0 Done 1 0 257"),
+        (b"nonsense", b"? no such call at line 4 column 1; help lists them")))
     expect(process.returncode == 0, "the status is", process.returncode)
     expect_left(path)
     expect_quietly_kept(bench, path, model.Coordinating(contents(path)))

@@ -153,19 +153,24 @@ def lives(number):
     return stat != b"" and stat.rpartition(b")")[2].split()[0] not in (b"Z", b"X")
 
 
+def expect_ended_by(number, talk, program):
+    """A signal to the script ends its program too, without a word, and the status tells its number."""
+    expect(program != talk.pid, "the script became the program, and can give no status")
+    talk.process.send_signal(number)
+    talk.process.wait(timeout=10)
+    expect(talk.process.returncode == 128 + number, "signal", number, "gives status", talk.process.returncode)
+    expect(not lives(program), "the program lives on after signal", number)
+    _, err = talk.end()
+    expect(err == b"", "signal", number, "is followed by", shown(err))
+
+
 @test
 def signals_to_the_script_are_passed_on(bench):
     script_of(bench)
     for number in ENDING:
         path = bench.path("journal%d" % number)
         talk, program = served(bench, path)
-        expect(program != talk.pid, "the script became the program, and can give no status")
-        talk.process.send_signal(number)
-        talk.process.wait(timeout=10)
-        expect(talk.process.returncode == 128 + number, "signal", number, "gives status", talk.process.returncode)
-        expect(not lives(program), "the program lives on after signal", number)
-        _, err = talk.end()
-        expect(err == b"", "signal", number, "is followed by", shown(err))
+        expect_ended_by(number, talk, program)
         expect_unlocked(path)
         words = expect_held(bench, path, model.Command(contents(path)))
         expect(not words, "the start after signal", number, "says", shown(words))

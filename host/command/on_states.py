@@ -12,6 +12,7 @@ from bench import (
     Skipped, clear, expect_lines, expect_same, expect_unlocked, lines_in, moved_word, opened, picture, put_early, refused, test)
 from on_coordinators import MOST, a_coordinator, expect_coordinated, expect_kept, expect_left, expect_quietly_kept, next_grant, told
 from on_files import NOBODY, as_nobody, limited_to, mounted
+from on_moves import replaced_by_a_folder, replaced_by_a_link_to_nowhere
 from on_system_calls import killed_at, moments, strace, traced
 from running import Failed, contents, expect, put, shown
 
@@ -249,16 +250,6 @@ def of_an_earlier_state(path):
 def replaced_by_another(path):
     put(path + " other", a_coordinator(9).file)
     os.rename(path + " other", path)
-
-
-def replaced_by_a_folder(path):
-    os.remove(path)
-    os.mkdir(path)
-
-
-def replaced_by_a_link_to_nowhere(path):
-    os.remove(path)
-    os.symlink("nowhere", path)
 
 
 CHANGES = [removed, renamed, emptied, changed_in_its_middle, changed_at_its_end, cut_by_a_byte, longer_by_a_byte, of_a_later_state,

@@ -42,20 +42,26 @@ def at_a_terminal(bench, *arguments):
     return master, process
 
 
-@test
-def on_a_terminal(bench):
-    path = bench.path()
-    master, process = at_a_terminal(bench, path)
+def expect_typed(master, process, path, rows):
+    """The first line, each line's answer as a person sees it, and the end by Ctrl-D."""
     said = until(master, b"> ")
     expect(said == opened(path, 0, 0).encode() + b"\r\n> ", "the terminal first shows", shown(said))
-    for line, answer in ((b"commit 100 0=7", b"0 23 Done"), (b"", b""), (b"now 0", b"0 0 Done 7" + b" 0" * 15),
-                         (b"nonsense", b"? no such call at line 4 column 1; help lists them")):
+    for line, answer in rows:
         os.write(master, line + b"\n")
         said = until(master, b"> ")
         expect(said == answer + b"\r\n" * bool(answer) + b"> ", shown(line), "is answered on a terminal with", shown(said))
     os.write(master, b"\x04")
     process.wait(timeout=10)
     os.close(master)
+
+
+@test
+def on_a_terminal(bench):
+    path = bench.path()
+    master, process = at_a_terminal(bench, path)
+    expect_typed(master, process, path, (
+        (b"commit 100 0=7", b"0 23 Done"), (b"", b""), (b"now 0", b"0 0 Done 7" + b" 0" * 15),
+        (b"nonsense", b"? no such call at line 4 column 1; help lists them")))
     expect_unlocked(path)
     expect_held(bench, path, model.Command(contents(path)))
 

@@ -7,11 +7,11 @@ use native.Mathlib.Omega.{arith}
 use lib.ListN.{length, take, drop, getD, length-drop}
 use lib.Seq.{take-all, take-take, getD-take, length-take-le}
 use lib.Dec.{ltb, leb}
-use borrow.Author.Tests.{ltb-true, leb-true, leb-false, lt-ltb, le-ltb, le-leb, lt-leb}
+use borrow.Author.Tests.{leb-true, leb-false, lt-ltb, le-ltb, le-leb, lt-leb}
 use Rattle.model.specs.Lists.{pick, risingFrom}
 use Rattle.model.specs.Coordinator.{stampsIn, currOf}
 use Rattle.tables.proofs.Cases.{by-test}
-use Rattle.tables.proofs.Searches.{both-left, both-right}
+use Rattle.tables.proofs.Rising.{first-beyond, rest-rises}
 use Rattle.coordinator.specs.Messages.{Parted, Speaks}
 
 -- ---- how many at the front are at most a bound
@@ -19,19 +19,13 @@ abbrev leading : ℕ → List ℕ → ℕ
 leading b [] = 0
 leading b (x ∷ xs) = pick (leb x b) (suc (leading b xs)) 0
 
--- the first of a rising list is beyond what it rises from, and the least
-beyond : (lo x : ℕ) (xs : List ℕ) → risingFrom lo (x ∷ xs) ≡ true → lo < x
-beyond lo x xs r = ltb-true lo x (both-left (ltb lo x) (risingFrom x xs) r)
-
-rest : (lo x : ℕ) (xs : List ℕ) → risingFrom lo (x ∷ xs) ≡ true → risingFrom x xs ≡ true
-rest lo x xs r = both-right (ltb lo x) (risingFrom x xs) r
-
+-- the first of a rising list is its least
 least : (lo x : ℕ) (xs : List ℕ) (i : ℕ) → risingFrom lo (x ∷ xs) ≡ true → i < suc (length xs) → x ≤ getD (x ∷ xs) i 0
 least lo x xs zero r h = omega arith
 least lo x [] (suc i) r h = absurd (omega arith)
 least lo x (y ∷ ys) (suc i) r h =
-    let q = rest lo x (y ∷ ys) r in
-    omega (arith, least x y ys i q (omega arith), beyond x y ys q)
+    let q = rest-rises lo x (y ∷ ys) r in
+    omega (arith, least x y ys i q (omega arith), first-beyond x y ys q)
 
 parted-leading : (lo : ℕ) (l : List ℕ) (b n : ℕ) → risingFrom lo l ≡ true → Parted l b n → n ≡ leading b l
 parted-leading lo [] b n r p = omega (arith, p .inside)
@@ -40,28 +34,28 @@ parted-leading lo (x ∷ xs) b (suc n) r p =
     let h = p .inside in
     let low : x ≤ b = omega (arith, least lo x xs n r (omega arith), p .low n refl) in
     let q : Parted xs b n = record { inside = omega arith; low = λ i e. p .low (suc i) (ap suc e); high = λ k. p .high (omega arith) } in
-    rw (le-leb x b low) (ap suc (parted-leading x xs b n (rest lo x xs r) q))
+    rw (le-leb x b low) (ap suc (parted-leading x xs b n (rest-rises lo x xs r) q))
 
 leading-none : (b x : ℕ) (xs : List ℕ) → risingFrom x xs ≡ true → b < x → leading b xs ≡ 0
 leading-none b x [] r h = refl
-leading-none b x (y ∷ ys) r h = rw (lt-leb y b (omega (arith, beyond x y ys r)))
+leading-none b x (y ∷ ys) r h = rw (lt-leb y b (omega (arith, first-beyond x y ys r)))
 
 -- ---- what is left behind some of a rising list rises too
 rising-lower : (lo x : ℕ) (xs : List ℕ) → lo < x → risingFrom x xs ≡ true → risingFrom lo xs ≡ true
 rising-lower lo x [] h r = refl
-rising-lower lo x (y ∷ ys) h r = rw (lt-ltb lo y (omega (arith, beyond x y ys r))) (rest x y ys r)
+rising-lower lo x (y ∷ ys) h r = rw (lt-ltb lo y (omega (arith, first-beyond x y ys r))) (rest-rises x y ys r)
 
 rising-drop : (lo a : ℕ) (l : List ℕ) → risingFrom lo l ≡ true → risingFrom lo (drop a l) ≡ true
 rising-drop lo zero l r = r
 rising-drop lo (suc a) [] r = refl
-rising-drop lo (suc a) (x ∷ xs) r = rising-drop lo a xs (rising-lower lo x xs (beyond lo x xs r) (rest lo x xs r))
+rising-drop lo (suc a) (x ∷ xs) r = rising-drop lo a xs (rising-lower lo x xs (first-beyond lo x xs r) (rest-rises lo x xs r))
 
 -- ---- the stamps between two bounds: of those beyond the first, those at most the second
 between : (lo p c : ℕ) (l : List ℕ) → risingFrom lo l ≡ true
     → stampsIn p c l ≡ take (leading c (drop (leading p l) l)) (drop (leading p l) l)
 between lo p c [] r = refl
 between lo p c (x ∷ xs) r =
-    let q = rest lo x xs r in
+    let q = rest-rises lo x xs r in
     let ih = between x p c xs q in
     by-test (leb x p)
     (λ t. rw (t, le-ltb p x (leb-true x p t)) ih)

@@ -23,6 +23,7 @@ use Rattle.model.specs.Exchange.{heardStep, unheard, hear}
 use Rattle.journal.specs.declared.walk.GossipHead.{GossipHead}
 use Rattle.journal.proofs.Walks.{column-length}
 use Rattle.changes.specs.Left.{Left}
+use Rattle.changes.proofs.Shapes.{stamps-short}
 use Rattle.history.proofs.Laws.{by-test, clash, both-left, both-right, pick-all}
 use Rattle.exchange.specs.Messages.{framedB, Spoken, misheardB}
 
@@ -160,11 +161,6 @@ module _ (bytes : List ℕ) where
         told false = refl
 
 -- ---- in other bytes it finds no gossip up to their end
-shaped-few : (prev curr : ℕ) (stamps : List ℕ) → stampsShaped prev curr stamps ≡ true → length stamps ≤ 16
-unfolding stampsShaped
-shaped-few prev curr stamps h =
-    leb-true _ _ (both-left (leb (length stamps) 16) _ (both-left (both (leb (length stamps) 16) (leb prev curr)) _ h))
-
 module _ (bytes : List ℕ) where
   -- a whole gossip up to the end has a frame
   whole-framed : getD (drop 2 bytes) 0 0 ≡ 2 → lengthOf (gossipIn (body bytes)) ≡ size bytes → wellFormed (gossipIn (body bytes)) ≡ true → 2 + size bytes ≡ length bytes
@@ -175,7 +171,7 @@ module _ (bytes : List ℕ) where
       let c : length ss ≡ n = column-length 8 8 n (drop 17 (body bytes)) in
       let m : 16 < size bytes - 1 = omega arith in
       let i : n ≡ getD bytes 19 0 = getD-take (size bytes - 1) (drop 1 (drop 2 bytes)) 16 0 m ∙ ap (λ (r : List ℕ). getD r 16 0) (drop-drop 1 2 bytes) ∙ getD-drop 3 bytes 16 0 in
-      let s : length ss ≤ 16 = shaped-few (fromBe (take 8 (body bytes))) (fromBe (take 8 (drop 8 (body bytes)))) ss (both-left (stampsShaped (fromBe (take 8 (body bytes))) (fromBe (take 8 (drop 8 (body bytes)))) ss) _ w) in
+      let s : length ss ≤ 16 = stamps-short (fromBe (take 8 (body bytes))) (fromBe (take 8 (drop 8 (body bytes)))) ss (both-left (stampsShaped (fromBe (take 8 (body bytes))) (fromBe (take 8 (drop 8 (body bytes)))) ss) _ w) in
       sym (by-size 16 bytes (omega arith) (omega arith) (sym (getD-drop 2 bytes 0 0) ∙ k) (omega arith)) ∙ eq-eqb (length bytes) (20 + 8 * getD bytes 19 0) (omega arith)
 
   module _ (u : framedB 16 bytes ≡ false) (st : Store) (j : List ℕ) (used : ℕ) where

@@ -1,5 +1,5 @@
 // Numbers as big-endian bytes, written to a slice and read from one. The width is a number of bytes.
-// All three require that the bytes are there: crate journal has tested that before it calls.
+// All three require that the bytes are there: whoever calls has tested that before.
 ghost use mathlib.Core.Path.{_≡_};
 ghost use Prim.Native.Nat.{_≤_, _+_, _*_};
 ghost use lib.ListN.{length, take, drop};
