@@ -2,35 +2,30 @@
 use Prim.Native.Nat.{ℕ, _+_, _*_, _<_, _≤_}
 use mathlib.Core.Path.{_≡_, refl, ap, _∙_}
 use mathlib.Core.Bool.{true, false}
-use mathlib.Core.List.{List, _++_}
+use mathlib.Core.List.{List}
 use native.Mathlib.Omega.{arith}
-use lib.ListN.{length, drop, getD}
+use lib.ListN.{length}
 use borrow.Author.Tests.{lt-ltb, le-ltb}
 use Rattle.model.specs.declared.Answer.the-variants.{Done, Damaged, Shape}
 use Rattle.model.specs.Bytes.{be, writeAt}
 use Rattle.model.specs.Records.{stampBytes}
 use Rattle.model.specs.Coordinator.{Coordinator, coordinatorDamaged}
 use Rattle.model.specs.CoordinatorBytes.{coordinatorBytes, keepCoordinator}
-use Rattle.fields.proofs.Laws.{be-length}
 use Rattle.journal.specs.Places.{Moved}
-use Rattle.journal.proofs.Places.{Left, left-all, left-next, left-last, stamps-turn, stamps-length}
+use Rattle.journal.proofs.Places.{field-moved, moved-before, moved-then, stamps-length}
 use Rattle.coordinator.specs.States.{Kept}
 
--- ---- fields and stamps, as journal's writers leave them
-field-moved : {j j₁ : List ℕ} (at w x : ℕ) {at₁ : ℕ} → at₁ ≡ at + w → j₁ ≡ writeAt at (be w x) j → Moved (be w x) j at j₁ at₁
-field-moved at w x p e = record { journal = e; place = omega (arith, be-length w x) }
-
--- the fields one behind another, then the stamps, are the state's bytes
-module _ {j₁ j₂ j₃ j₄ : List ℕ} (s : ℕ) (ss b : List ℕ) (h : 10 + 8 * length ss ≤ length b) (version : j₁ ≡ writeAt 0 (be 1 1) b)
-    (sent : j₂ ≡ writeAt 1 (be 8 s) j₁) (count : j₃ ≡ writeAt 9 (be 1 (length ss)) j₂) (stamps : j₄ ≡ writeAt 10 (stampBytes ss) j₃) where
+-- ---- sent, the version byte before it, the count and the stamps behind it are the state's bytes
+module _ {j₁ j₂ j₃ j₄ : List ℕ} {end : ℕ} (s : ℕ) (ss b : List ℕ) (h : 10 + 8 * length ss ≤ length b) (sent : j₁ ≡ writeAt 1 (be 8 s) b)
+    (version : j₂ ≡ writeAt 0 (be 1 1) j₁) (count : j₃ ≡ writeAt 9 (be 1 (length ss)) j₂) (stamps : Moved (stampBytes ss) j₃ 10 j₄ end) where
   pub state-written : j₄ ≡ writeAt 0 (coordinatorBytes (record { granted = ss; sent = s })) b
   unfolding coordinatorBytes
   state-written =
-      let bytes = coordinatorBytes (record { granted = ss; sent = s }) in
-      let whole : Left bytes (be 1 1 ++ (be 8 s ++ (be 1 (length ss) ++ stampBytes ss))) b 0 b 0 = left-all (omega (arith, stamps-length ss)) in
-      let rest = left-next (field-moved 9 1 (length ss) refl count) (left-next (field-moved 1 8 s refl sent) (left-next (field-moved 0 1 1 refl version) whole)) in
-      let last : Moved (stampBytes ss) j₃ 10 j₄ (10 + 8 * length ss) = record { journal = stamps; place = omega (arith, stamps-length ss) } in
-      left-last last rest .journal
+      let n = stamps-length ss in
+      let sent-moved : Moved (be 8 s) b 1 j₁ 9 = field-moved 1 8 s refl sent in
+      let head = moved-before sent-moved (field-moved 0 1 1 refl version) (omega arith) in
+      let count-moved : Moved (be 1 (length ss)) j₂ 9 j₃ 10 = field-moved 9 1 (length ss) refl count in
+      moved-then (moved-then head count-moved (omega arith)) stamps (omega arith) .journal
 
 -- ---- the answers
 module _ (k : Coordinator) (b : List ℕ) where

@@ -1,7 +1,6 @@
 pub mod States
 pub mod Grants
 pub mod Parts
-pub mod Writing
 pub mod Saying
 pub mod Keeping
 pub mod Restarting

@@ -1,5 +1,5 @@
 -- What was sent, and what each test of a message or a request settles.
-use Prim.Native.Nat.{ℕ, max, _+_, _*_, _-_, _≤_, _<_}
+use Prim.Native.Nat.{ℕ, max, _-_, _≤_, _<_}
 use mathlib.Core.Path.{_≡_, refl, ap, _∙_}
 use mathlib.Core.Bool.{true, false}
 use mathlib.Core.List.{List}
@@ -14,7 +14,7 @@ use Rattle.model.specs.Changes.{gossip}
 use Rattle.model.specs.Records.{encode}
 use Rattle.model.specs.Coordinator.{Coordinator, freshCoordinator, coordinatorDamaged, stampsIn, currOf, messageFor, messageAnswer, message}
 use Rattle.model.specs.Exchange.{Requested, noRequest, request, served}
-use Rattle.journal.proofs.Places.{encode-length}
+use Rattle.journal.specs.Places.{Moved}
 use Rattle.requests.specs.declared.Asked.the-variants.{Nothing, For}
 use Rattle.requests.specs.Asking.{asked}
 use Rattle.coordinator.specs.States.{held, Wrote}
@@ -32,16 +32,16 @@ unfolding freshCoordinator
 cleared w l = sent-is (set w 0 0) 0 (length-set w 0 0 ∙ l) ∙ rw (getD-set-same w 0 0 0 (omega arith))
 
 -- ---- the message's stamps and curr, written as a gossip record
-pub told : (k : Coordinator) (prev clock : ℕ) {j j′ : List ℕ} {start end curr : ℕ} (g : List ℕ) → g ≡ k .granted → Speaks g prev clock start end curr
-    → j′ ≡ writeAt 0 (encode (gossip prev curr (take (end - start) (drop start g)))) j → Told k prev clock j (20 + 8 * length (take (end - start) (drop start g))) curr j′
+pub told : (k : Coordinator) (prev clock : ℕ) {j j′ : List ℕ} {start end curr size : ℕ} (g : List ℕ) → g ≡ k .granted → Speaks g prev clock start end curr
+    → Moved (encode (gossip prev curr (take (end - start) (drop start g)))) j 0 j′ size → Told k prev clock j size curr j′
 unfolding messageFor
-told k prev clock {j} {j′} {start} {end} {curr} g e c w =
+told k prev clock {j} {j′} {start} {end} {curr} {size} g e c m =
     let stamps = c .stamps ∙ ap (λ (l : List ℕ). take 16 (stampsIn prev clock l)) e in
     let curr-is = c .curr-is ∙ ap (λ (l : List ℕ). currOf (stampsIn prev clock l) clock) e in
     let same : gossip prev curr (take (end - start) (drop start g)) ≡ messageFor k prev clock = λ i. gossip prev (curr-is i) (stamps i) in
     record {
-      written = w ∙ ap (λ x. writeAt 0 (encode x) j) same;
-      size-is = omega (arith, encode-length (gossip prev curr (take (end - start) (drop start g)))) ∙ ap (λ x. length (encode x)) same;
+      written = m .journal ∙ ap (λ x. writeAt 0 (encode x) j) same;
+      size-is = omega (arith, m .place) ∙ ap (λ x. length (encode x)) same;
       curr-is = curr-is;
     }
 

@@ -3,12 +3,12 @@ use crate::COUNT;
 use crate::SENT;
 use crate::STAMPS;
 use crate::State;
+use journal::place::Place;
 use model::Answer;
 ghost use mathlib.Core.Path.{_≡_};
 ghost use Prim.Native.Nat.{_<_, _≤_};
 ghost use lib.ListN.{length, drop};
 ghost use Rattle.model.specs.Bytes.{column, writeAt};
-ghost use Rattle.model.specs.Records.{stampBytes};
 ghost use Rattle.model.specs.Answers.{codeOf};
 ghost use Rattle.model.specs.CoordinatorBytes as model;
 ghost use Rattle.coordinator.specs.States.{held, Kept, Restarted};
@@ -20,14 +20,16 @@ const COUNT_AT: usize = 9;
 
 const STAMPS_AT: usize = 10;
 
+// `sent` comes first, so that the compiler makes one store of it.
 fn put_state(buffer: &mut [u8], sent: u64, stamps: &[u64])
     requires { ⌜ model.sizeOf (length (now stamps)) ≤ length (now buffer) ⌝ }
     ensures { λ _. ⌜ now (buffer .exit) ≡ writeAt 0 (model.coordinatorBytes (record { granted = now (stamps .entry); sent = sent })) (now (buffer .entry)) ⌝ }
 {
-    fields::put_be(buffer, 0, 1, 1);
     fields::put_be(buffer, SENT_AT, 8, sent);
+    fields::put_be(buffer, 0, 1, 1);
     fields::put_be(buffer, COUNT_AT, 1, stamps.len() as u64);
-    crate::put_stamps(buffer, STAMPS_AT, stamps);
+    let rows = Place { at: STAMPS_AT };
+    rows.put_stamps(buffer, stamps);
 }
 
 // The state's bytes go to the buffer's front, which has room for the most that a state has.

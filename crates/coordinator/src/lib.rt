@@ -6,13 +6,11 @@ use model::Answer;
 ghost use mathlib.Core.Path.{_≡_};
 ghost use mathlib.Core.Bool.{true};
 ghost use mathlib.Core.List.{_∷_, [], _++_};
-ghost use Prim.Native.Nat.{_<_, _≤_, _+_, _*_, max};
+ghost use Prim.Native.Nat.{_<_, _≤_, max};
 ghost use lib.ListN.{length, getD};
 ghost use lib.Dec.{ltb};
 ghost use Rattle.model.specs.declared.Answer.the-variants.{Done};
 ghost use Rattle.model.specs.Lists.{pick, risingFrom};
-ghost use Rattle.model.specs.Bytes.{writeAt};
-ghost use Rattle.model.specs.Records.{stampBytes};
 ghost use Rattle.model.specs.Coordinator as model;
 ghost use Rattle.coordinator.specs.States.{held, Sound, Granted};
 
@@ -75,18 +73,6 @@ fn rising(stamps: &[u64]) -> bool
         below = stamp;
     }
     rises == i
-}
-
-// The stamps' bytes, from a place on.
-fn put_stamps(buffer: &mut [u8], at: usize, stamps: &[u64])
-    requires { ⌜ at + 8 * length (now stamps) ≤ length (now buffer) ⌝ }
-    ensures { λ _. ⌜ now (buffer .exit) ≡ writeAt at (stampBytes (now (stamps .entry))) (now (buffer .entry)) ⌝ }
-{
-    let mut i: usize = 0;
-    while i < stamps.len() {
-        fields::put_be(buffer, at + 8 * i, 8, stamps[i]);
-        i += 1;
-    }
 }
 
 // More than 64 stamps, of which none is read then, or stamps out of order.

@@ -1,30 +1,17 @@
 // A message: the granted stamps after a prev up to a clock stamp, as a gossip record.
-// As they are written, a loop or a branch stands between its 8-byte fields: so the compiler makes one store of each.
 use crate::State;
+use journal::place::Place;
 use model::Answer;
 use requests::Asked;
 ghost use mathlib.Core.Path.{_≡_};
 ghost use mathlib.Core.Bool.{true};
-ghost use Prim.Native.Nat.{_≤_, _+_, _*_};
+ghost use Prim.Native.Nat.{_≤_};
 ghost use lib.ListN.{length};
-ghost use Rattle.model.specs.Bytes.{be, writeAt};
 ghost use Rattle.model.specs.Lists.{risingFrom};
-ghost use Rattle.model.specs.Records.{stampBytes};
 ghost use Rattle.model.specs.Coordinator as model;
 ghost use Rattle.model.specs.Exchange as exchange;
 ghost use Rattle.coordinator.specs.States.{held, Sound, Wrote};
 ghost use Rattle.coordinator.specs.Messages.{Parted, Speaks, Told};
-
-// Where the fields behind the record's length stand.
-const KIND_AT: usize = 2;
-
-const PREV_AT: usize = 3;
-
-const CURR_AT: usize = 11;
-
-const COUNT_AT: usize = 19;
-
-const STAMPS_AT: usize = 20;
 
 // What a message says to its sender: its length in bytes and its curr.
 struct Sent {
@@ -78,32 +65,20 @@ fn choose(granted: &[u64], prev: u64, clock: u64) -> Chosen
     }
 }
 
-// The small fields: how many stamps, the kind, the length of what follows.
-fn put_head(buffer: &mut [u8], count: u64)
-    requires { ⌜ (count ≤ 16) × (20 ≤ length (now buffer)) ⌝ }
-    ensures { λ _. ⌜ now (buffer .exit) ≡ writeAt 0 (be 2 (18 + 8 * count)) (writeAt 2 (be 1 2) (writeAt 19 (be 1 count) (now (buffer .entry)))) ⌝ }
-{
-    fields::put_be(buffer, COUNT_AT, 1, count);
-    fields::put_be(buffer, KIND_AT, 1, 2);
-    fields::put_be(buffer, 0, 2, 18 + 8 * count);
-}
-
 // The message at the buffer's front.
 fn tell(state: &State, prev: u64, clock: u64, buffer: &mut [u8]) -> Sent
     requires { ⌜ Sound (now state) × (148 ≤ length (now buffer)) ⌝ }
     ensures { λ r. ⌜ Told (held (now (state .entry))) prev clock (now (buffer .entry)) (r .length) (r .curr) (now (buffer .exit)) ⌝ }
 {
-    fields::put_be(buffer, PREV_AT, 8, prev);
     let granted = crate::granted(state);
     let chosen = choose(granted, prev, clock);
     let start = chosen.start;
     let end = chosen.end;
     let stamps = &granted[start..end];
-    fields::put_be(buffer, CURR_AT, 8, chosen.curr);
-    crate::put_stamps(buffer, STAMPS_AT, stamps);
-    put_head(buffer, stamps.len() as u64);
+    let front = Place { at: 0 };
+    let behind = front.put_gossip(buffer, prev, chosen.curr, stamps);
     Sent {
-        length: STAMPS_AT + 8 * stamps.len(),
+        length: behind.at,
         curr: chosen.curr,
     }
 }

@@ -1,4 +1,4 @@
--- The model's `hear` is the gossip that the bytes tell, with Malformed in the place of a Shape that is the stamps' own.
+-- The model's `hear` is the gossip that bytes with a frame and shaped stamps tell; other bytes are unheard.
 use Prim.Native.Nat.{ℕ, _+_, _*_, _-_, _≤_, _<_, zero-le}
 use mathlib.Core.Path.{_≡_, refl, ap, sym, _∙_, subst}
 use mathlib.Core.Bool.{Bool, true, false}
@@ -9,7 +9,7 @@ use lib.Seq.{drop-drop, getD-drop, getD-take, length-take-le, take-all, take-at}
 use lib.Dec.{ltb, leb, eqb}
 use borrow.Author.Tests.{leb-true, eqb-true, le-leb, lt-leb, le-ltb, eq-eqb, ne-eqb}
 use Rattle.model.specs.declared.Answer.{Answer}
-use Rattle.model.specs.declared.Answer.the-variants.{Malformed}
+use Rattle.model.specs.declared.Answer.the-variants.{Damaged, Malformed}
 use Rattle.model.specs.Lists.{both, either, pick, emptyB}
 use Rattle.model.specs.Answers.{codeOf}
 use Rattle.model.specs.Bytes.{fromBe, column}
@@ -24,8 +24,9 @@ use Rattle.journal.specs.declared.walk.GossipHead.{GossipHead}
 use Rattle.journal.proofs.Walks.{column-length}
 use Rattle.changes.specs.Left.{Left}
 use Rattle.changes.proofs.Shapes.{stamps-short}
+use Rattle.changes.proofs.Outcomes as changes
 use Rattle.history.proofs.Laws.{by-test, clash, both-left, both-right, pick-all}
-use Rattle.exchange.specs.Messages.{framedB, Spoken, misheardB}
+use Rattle.exchange.specs.Messages.{framedB, Spoken}
 
 -- ---- tests
 none-both : (b : Bool) → both b false ≡ false
@@ -41,37 +42,37 @@ same true x = refl
 same false x = refl
 
 -- ---- a frame, test by test as the code goes through them
-module _ (most : ℕ) (bytes : List ℕ) where
-  pub too-short : length bytes < 20 → false ≡ framedB most bytes
+module _ (bytes : List ℕ) where
+  pub too-short : length bytes < 20 → false ≡ framedB bytes
   unfolding framedB
   too-short h = rw (lt-leb 20 (length bytes) h)
 
-  pub other-length : (fromBe (take 2 bytes) ≡ length bytes - 2 → ⊥) → false ≡ framedB most bytes
+  pub other-length : (fromBe (take 2 bytes) ≡ length bytes - 2 → ⊥) → false ≡ framedB bytes
   unfolding framedB
   other-length h = rw (ne-eqb (fromBe (take 2 bytes)) (length bytes - 2) h, none-both)
 
-  pub other-kind : (getD bytes 2 0 ≡ 2 → ⊥) → false ≡ framedB most bytes
+  pub other-kind : (getD bytes 2 0 ≡ 2 → ⊥) → false ≡ framedB bytes
   unfolding framedB
   other-kind h = rw (ne-eqb (getD bytes 2 0) 2 h, none-both, none-both)
 
-  pub too-many : most < getD bytes 19 0 → false ≡ framedB most bytes
+  pub too-many : 16 < getD bytes 19 0 → false ≡ framedB bytes
   unfolding framedB
-  too-many h = rw (lt-leb (getD bytes 19 0) most h, none-both, none-both, none-both)
+  too-many h = rw (lt-leb (getD bytes 19 0) 16 h, none-both, none-both, none-both)
 
-  pub by-size : 20 ≤ length bytes → fromBe (take 2 bytes) ≡ length bytes - 2 → getD bytes 2 0 ≡ 2 → getD bytes 19 0 ≤ most
-      → eqb (length bytes) (20 + 8 * getD bytes 19 0) ≡ framedB most bytes
+  pub by-size : 20 ≤ length bytes → fromBe (take 2 bytes) ≡ length bytes - 2 → getD bytes 2 0 ≡ 2 → getD bytes 19 0 ≤ 16
+      → eqb (length bytes) (20 + 8 * getD bytes 19 0) ≡ framedB bytes
   unfolding framedB
   by-size a b c d =
-      rw (le-leb 20 (length bytes) a, eq-eqb (fromBe (take 2 bytes)) (length bytes - 2) b, eq-eqb (getD bytes 2 0) 2 c, le-leb (getD bytes 19 0) most d)
+      rw (le-leb 20 (length bytes) a, eq-eqb (fromBe (take 2 bytes)) (length bytes - 2) b, eq-eqb (getD bytes 2 0) 2 c, le-leb (getD bytes 19 0) 16 d)
 
   pub record Frame : Type 0 where
     pub long : 20 ≤ length bytes
     pub sizes : fromBe (take 2 bytes) ≡ length bytes - 2
     pub kind : getD bytes 2 0 ≡ 2
-    pub few : getD bytes 19 0 ≤ most
+    pub few : getD bytes 19 0 ≤ 16
     pub ends : length bytes ≡ 20 + 8 * getD bytes 19 0
 
-  pub frame : framedB most bytes ≡ true → Frame
+  pub frame : framedB bytes ≡ true → Frame
   unfolding framedB
   frame h =
       let a = both-right (leb 20 (length bytes)) _ h in
@@ -81,26 +82,24 @@ module _ (most : ℕ) (bytes : List ℕ) where
         long = leb-true _ _ (both-left (leb 20 (length bytes)) _ h);
         sizes = eqb-true _ _ (both-left (eqb (fromBe (take 2 bytes)) (length bytes - 2)) _ a);
         kind = eqb-true _ _ (both-left (eqb (getD bytes 2 0) 2) _ b);
-        few = leb-true _ _ (both-left (leb (getD bytes 19 0) most) _ c);
-        ends = eqb-true _ _ (both-right (leb (getD bytes 19 0) most) _ c);
+        few = leb-true _ _ (both-left (leb (getD bytes 19 0) 16) _ c);
+        ends = eqb-true _ _ (both-right (leb (getD bytes 19 0) 16) _ c);
       }
 
--- ---- what the code's reader tells, with a frame and without
-module _ (bytes room : List ℕ) where
-  pub untold : framedB (length room) bytes ≡ false → Spoken (length room) bytes (record { prev = 1; curr = 0; count = 0 }) room
-  untold h = record { told = rw h; fits = zero-le; holds = refl }
-
-  pub told-all : framedB (length room) bytes ≡ true → {p c : ℕ} {col : List ℕ} → p ≡ fromBe (take 8 (drop 3 bytes)) → c ≡ fromBe (take 8 (drop 11 bytes))
+-- ---- what the code reads of bytes with a frame
+module _ (bytes room : List ℕ) (n : length room ≡ 16) (t : framedB bytes ≡ true) where
+  pub told-all : {p c : ℕ} {col : List ℕ} → p ≡ fromBe (take 8 (drop 3 bytes)) → c ≡ fromBe (take 8 (drop 11 bytes))
       → col ≡ column 8 8 (length (take (getD bytes 19 0) room)) (drop 20 bytes)
-      → Spoken (length room) bytes (record { prev = p; curr = c; count = getD bytes 19 0 }) (col ++ drop (getD bytes 19 0) room)
-  told-all h {p} {c} {col} e f g =
-      let n = getD bytes 19 0 in
-      let i : col ≡ column 8 8 n (drop 20 bytes) = g ∙ ap (λ (k : ℕ). column 8 8 k (drop 20 bytes)) (length-take-le n room (frame (length room) bytes h .few)) in
-      let l : length col ≡ n = ap length i ∙ column-length 8 8 n (drop 20 bytes) in
+      → Spoken bytes (record { prev = p; curr = c; count = getD bytes 19 0 }) (col ++ drop (getD bytes 19 0) room)
+  told-all {p} {c} {col} e f g =
+      let k = getD bytes 19 0 in
+      let few : k ≤ length room = omega (arith, frame bytes t .few) in
+      let i : col ≡ column 8 8 k (drop 20 bytes) = g ∙ ap (λ (m : ℕ). column 8 8 m (drop 20 bytes)) (length-take-le k room few) in
+      let l : length col ≡ k = ap length i ∙ column-length 8 8 k (drop 20 bytes) in
       record {
-        told = rw (h, e, f);
+        told = rw (e, f);
         fits = simp length-append (omega arith);
-        holds = take-at col (drop n room) n l ∙ i;
+        holds = take-at col (drop k room) k l ∙ i;
       }
 
 -- ---- what the model's reader finds in bytes with such a frame: the gossip that they tell, where its stamps are shaped
@@ -123,7 +122,7 @@ module _ (bytes : List ℕ) where
   said : gossipIn (drop 3 bytes) ≡ gossip prev curr stamps
   said = rw (drop-drop 8 3 bytes, drop-drop 17 3 bytes, getD-drop 3 bytes 16 0)
 
-  module _ (f : Frame 16 bytes) where
+  module _ (f : Frame bytes) where
     body-is : body ≡ drop 3 bytes
     body-is =
         let l : length (drop 3 bytes) ≤ size - 1 = omega (arith, length-drop 3 bytes, f .sizes) in
@@ -164,7 +163,7 @@ module _ (bytes : List ℕ) where
 module _ (bytes : List ℕ) where
   -- a whole gossip up to the end has a frame
   whole-framed : getD (drop 2 bytes) 0 0 ≡ 2 → lengthOf (gossipIn (body bytes)) ≡ size bytes → wellFormed (gossipIn (body bytes)) ≡ true → 2 + size bytes ≡ length bytes
-      → framedB 16 bytes ≡ true
+      → framedB bytes ≡ true
   whole-framed k l w e =
       let n = getD (body bytes) 16 0 in
       let ss = column 8 8 n (drop 17 (body bytes)) in
@@ -172,9 +171,9 @@ module _ (bytes : List ℕ) where
       let m : 16 < size bytes - 1 = omega arith in
       let i : n ≡ getD bytes 19 0 = getD-take (size bytes - 1) (drop 1 (drop 2 bytes)) 16 0 m ∙ ap (λ (r : List ℕ). getD r 16 0) (drop-drop 1 2 bytes) ∙ getD-drop 3 bytes 16 0 in
       let s : length ss ≤ 16 = stamps-short (fromBe (take 8 (body bytes))) (fromBe (take 8 (drop 8 (body bytes)))) ss (both-left (stampsShaped (fromBe (take 8 (body bytes))) (fromBe (take 8 (drop 8 (body bytes)))) ss) _ w) in
-      sym (by-size 16 bytes (omega arith) (omega arith) (sym (getD-drop 2 bytes 0 0) ∙ k) (omega arith)) ∙ eq-eqb (length bytes) (20 + 8 * getD bytes 19 0) (omega arith)
+      sym (by-size bytes (omega arith) (omega arith) (sym (getD-drop 2 bytes 0 0) ∙ k) (omega arith)) ∙ eq-eqb (length bytes) (20 + 8 * getD bytes 19 0) (omega arith)
 
-  module _ (u : framedB 16 bytes ≡ false) (st : Store) (j : List ℕ) (used : ℕ) where
+  module _ (u : framedB bytes ≡ false) (st : Store) (j : List ℕ) (used : ℕ) where
     abbrev Unheard : Step → Type 0
     Unheard s = heardStep s (length bytes) st j used ≡ unheard st j used
 
@@ -185,7 +184,7 @@ module _ (bytes : List ℕ) where
     no-gossip k w =
         by-test (eqb (2 + size bytes) (length bytes))
         (λ e.
-        clash (framedB 16 bytes)
+        clash (framedB bytes)
         (whole-framed k (eqb-true _ _ (both-left (eqb (lengthOf (gossipIn (body bytes))) (size bytes)) _ w)) (both-right (eqb (lengthOf (gossipIn (body bytes))) (size bytes)) _ w) (eqb-true _ _ e)) u)
         (λ e. rw e)
 
@@ -215,59 +214,55 @@ module _ (bytes : List ℕ) where
         pick-all Unheard (either (ltb (size bytes) 2) (ltb 170 (size bytes))) (λ _. refl)
         (λ _. pick-all Unheard (ltb (length (drop 2 bytes)) (size bytes)) (λ _. refl) (λ _. decoded))))
 
--- ---- what is answered once the stamps of an answer Shape are judged
-abbrev pub heardAs : ℕ → ℕ → List ℕ → Outcome → Outcome
-heardAs prev curr stamps x = record {
-  answer = pick (misheardB (codeOf (x .answer)) prev curr stamps) (Malformed 0) (x .answer);
-  store = x .store;
-  journal = x .journal;
-  place = x .place;
-}
+-- ---- what is left, by the test that settles it
+left-unheard : (st : Store) (j : List ℕ) (used : ℕ) → damaged st ≡ false → Left (unheard st j used) (Malformed 0) st j used
+left-unheard st j used w = rw w (record { answered = refl; contains = refl; journal-is = refl; place-is = refl })
 
-module _ (st : Store) (j : List ℕ) (used prev curr : ℕ) (stamps : List ℕ) where
-  shaped-same : stampsShaped prev curr stamps ≡ true → gossipCall st j used prev curr stamps ≡ heardAs prev curr stamps (gossipCall st j used prev curr stamps)
-  shaped-same h = rw (h, none-both)
-
-  unshaped : stampsShaped prev curr stamps ≡ false → unheard st j used ≡ heardAs prev curr stamps (gossipCall st j used prev curr stamps)
-  unfolding change answerTo
-  unshaped h = by-test (damaged st) (λ d. rw d) (λ d. rw (d, h, none-both))
+left-damaged : (st : Store) (j : List ℕ) (used : ℕ) → damaged st ≡ true → Left (unheard st j used) Damaged st j used
+left-damaged st j used d = rw d (record { answered = refl; contains = refl; journal-is = refl; place-is = refl })
 
 module _ (bytes : List ℕ) (st : Store) (j : List ℕ) (used : ℕ) where
-  abbrev Heard : GossipHead → Type 0
-  Heard h =
-      let ss = column 8 8 (h .count) (drop 20 bytes) in
-      hear st j used bytes ≡ heardAs (h .prev) (h .curr) ss (gossipCall st j used (h .prev) (h .curr) ss)
-
-  no-range : stampsShaped 1 0 [] ≡ false
-  unfolding stampsShaped
-  no-range = refl
-
-  framed-heard : framedB 16 bytes ≡ true → Heard (record { prev = prev bytes; curr = curr bytes; count = getD bytes 19 0 })
+  -- with a frame the stamps decide
+  by-stamps : framedB bytes ≡ true → (b : Bool) → stampsShaped (prev bytes) (curr bytes) (stamps bytes) ≡ b
+      → hear st j used bytes ≡ pick b (gossipCall st j used (prev bytes) (curr bytes) (stamps bytes)) (unheard st j used)
   unfolding hear
-  framed-heard t =
+  by-stamps t b e =
       let p = prev bytes in
       let c = curr bytes in
       let ss = stamps bytes in
-      let f : Bool → Outcome = λ b. heardStep (pick b (whole (gossip p c ss) (length bytes)) (malformed 0)) (length bytes) st j used in
-      let g : hear st j used bytes ≡ f (stampsShaped p c ss) = ap (λ (s : Step). heardStep s (length bytes) st j used) (found bytes (frame 16 bytes t)) in
-      by-test (stampsShaped p c ss)
-      (λ h. g ∙ ap f h ∙ rw (eq-eqb (length bytes) (length bytes) refl) (shaped-same st j used p c ss h))
-      (λ h. g ∙ ap f h ∙ unshaped st j used p c ss h)
+      ap (λ (s : Step). heardStep s (length bytes) st j used) (found bytes (frame bytes t) ∙ ap (λ (b : Bool). pick b (whole (gossip p c ss) (length bytes)) (malformed 0)) e) ∙ chosen b
+    where
+      chosen : (b : Bool) → heardStep (pick b (whole (gossip (prev bytes) (curr bytes) (stamps bytes)) (length bytes)) (malformed 0)) (length bytes) st j used
+          ≡ pick b (gossipCall st j used (prev bytes) (curr bytes) (stamps bytes)) (unheard st j used)
+      chosen true = rw (eq-eqb (length bytes) (length bytes) refl)
+      chosen false = refl
 
-  pub heard : {h : GossipHead} {room : List ℕ} → Spoken 16 bytes h room
-      → hear st j used bytes ≡ heardAs (h .prev) (h .curr) (take (h .count) room) (gossipCall st j used (h .prev) (h .curr) (take (h .count) room))
-  heard {h} {room} s =
-      let e : Heard h = subst Heard (sym (s .told)) (pick-all Heard (framedB 16 bytes) framed-heard (λ u. unspoken bytes u st j used ∙ unshaped st j used 1 0 [] no-range)) in
-      rw (s .holds) e
+  pub deaf : damaged st ≡ true → Left (hear st j used bytes) Damaged st j used
+  deaf d =
+      by-test (framedB bytes)
+      (λ t.
+      by-test (stampsShaped (prev bytes) (curr bytes) (stamps bytes))
+      (λ h. rw (by-stamps t true h) (changes.left-damaged st j used true (gossip (prev bytes) (curr bytes) (stamps bytes)) d))
+      (λ h. rw (by-stamps t false h) (left-damaged st j used d)))
+      (λ u. rw (unspoken bytes u st j used) (left-damaged st j used d))
 
-  -- what is left of the store and its journal
-  pub left-heard : {h : GossipHead} {room : List ℕ} {a a′ : Answer} {st′ : Store} {j′ : List ℕ} {n : ℕ} → Spoken 16 bytes h room
-      → Left (gossipCall st j used (h .prev) (h .curr) (take (h .count) room)) a st′ j′ n → a′ ≡ pick (misheardB (codeOf a) (h .prev) (h .curr) (take (h .count) room)) (Malformed 0) a
-      → Left (hear st j used bytes) a′ st′ j′ n
-  left-heard {h} {room} {a} {a′} {st′} {j′} {n} s l e =
-      subst (λ (x : Outcome). Left x a′ st′ j′ n) (sym (heard s)) (record {
-        answered = e ∙ ap (λ (y : Answer). pick (misheardB (codeOf y) (h .prev) (h .curr) (take (h .count) room)) (Malformed 0) y) (l .answered);
-        contains = l .contains;
-        journal-is = l .journal-is;
-        place-is = l .place-is;
-      })
+  module _ (w : damaged st ≡ false) where
+    pub unframed : framedB bytes ≡ false → Left (hear st j used bytes) (Malformed 0) st j used
+    unframed u = rw (unspoken bytes u st j used) (left-unheard st j used w)
+
+    module _ (t : framedB bytes ≡ true) {h : GossipHead} {room : List ℕ} (s : Spoken bytes h room) where
+      abbrev Told : GossipHead → List ℕ → Bool → Type 0
+      Told h ss b = stampsShaped (h .prev) (h .curr) ss ≡ b → hear st j used bytes ≡ pick b (gossipCall st j used (h .prev) (h .curr) ss) (unheard st j used)
+
+      by-read : (b : Bool) → Told h (take (h .count) room) b
+      by-read b =
+          let e : Told h (column 8 8 (h .count) (drop 20 bytes)) b = subst (λ (h : GossipHead). Told h (column 8 8 (h .count) (drop 20 bytes)) b) (sym (s .told)) (by-stamps t b) in
+          rw (s .holds) e
+
+      pub unshaped : stampsShaped (h .prev) (h .curr) (take (h .count) room) ≡ false → Left (hear st j used bytes) (Malformed 0) st j used
+      unshaped e = rw (by-read false e) (left-unheard st j used w)
+
+      -- and where they are shaped, hearing is gossip
+      pub as-gossip : stampsShaped (h .prev) (h .curr) (take (h .count) room) ≡ true → {a : Answer} {st′ : Store} {j′ : List ℕ} {n : ℕ}
+          → Left (gossipCall st j used (h .prev) (h .curr) (take (h .count) room)) a st′ j′ n → Left (hear st j used bytes) a st′ j′ n
+      as-gossip e l = rw (by-read true e) l

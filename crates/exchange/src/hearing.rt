@@ -1,6 +1,11 @@
-// The bytes of a gossip message, taken as gossip. Its stamps are judged once, by the gossip itself.
+// The bytes of a gossip message, taken as gossip.
 use changes::settling::Changed;
+use journal::place::COUNT_AT;
+use journal::place::CURR_AT;
+use journal::place::KIND_AT;
+use journal::place::PREV_AT;
 use journal::place::Place;
+use journal::place::STAMPS_AT;
 use journal::walk::GossipHead;
 use model::Answer;
 use tables::Copied;
@@ -11,24 +16,14 @@ use tables::PastTable;
 use tables::PendingTable;
 use tables::Snapshots;
 ghost use mathlib.Core.Path.{_≡_};
-ghost use Prim.Native.Nat.{_≤_, _+_};
+ghost use mathlib.Core.Bool.{true};
+ghost use Prim.Native.Nat.{_≤_, _+_, _*_};
 ghost use lib.ListN.{length, take, drop};
-ghost use Rattle.model.specs.Bytes.{fromBe};
+ghost use Rattle.model.specs.Bytes.{fromBe, column};
 ghost use Rattle.model.specs.Exchange as model;
 ghost use Rattle.tables.specs.Contents.{contents};
 ghost use Rattle.changes.specs.Left.{Left};
-ghost use Rattle.exchange.specs.Messages.{framedB, Spoken, misheardB};
-
-// Where the fields behind the record's length stand.
-const KIND_AT: usize = 2;
-
-const PREV_AT: usize = 3;
-
-const CURR_AT: usize = 11;
-
-const COUNT_AT: usize = 19;
-
-const STAMPS_AT: usize = 20;
+ghost use Rattle.exchange.specs.Messages.{framedB, Spoken};
 
 // The number of eight bytes, read as two of four: the compiler makes one load of it.
 fn word_at(bytes: &[u8], at: usize) -> u64
@@ -40,9 +35,9 @@ fn word_at(bytes: &[u8], at: usize) -> u64
     high * 4294967296 + low
 }
 
-// One whole record of kind 2 and nothing else, of at most so many stamps, whatever they are.
-fn framed(bytes: &[u8], most: usize) -> bool
-    ensures { λ r. ⌜ r ≡ framedB most (now (bytes .entry)) ⌝ }
+// One whole record of kind 2 and nothing else, of at most sixteen stamps, whatever they are.
+fn framed(bytes: &[u8]) -> bool
+    ensures { λ r. ⌜ r ≡ framedB (now (bytes .entry)) ⌝ }
 {
     if bytes.len() < STAMPS_AT {
         return false;
@@ -55,42 +50,49 @@ fn framed(bytes: &[u8], most: usize) -> bool
         return false;
     }
     let count = bytes[COUNT_AT] as usize;
-    if most < count {
+    if 16 < count {
         return false;
     }
     bytes.len() == STAMPS_AT + 8 * count
 }
 
-// The head of the message that bytes are, and its stamps, unjudged, at the list's front.
-// Other bytes, and a message of more stamps than the list has room for, tell a range that no gossip takes.
-pub fn read_message(bytes: &[u8], stamps: &mut [u64]) -> GossipHead
-    ensures { λ r. ⌜ Spoken (length (now (stamps .entry))) (now (bytes .entry)) r (now (stamps .exit)) ⌝ }
+// Stamps, one behind another.
+fn read_stamps(bytes: &[u8], out: &mut [u64])
+    requires { ⌜ 20 + 8 * length (now out) ≤ length (now bytes) ⌝ }
+    ensures { λ _. ⌜ now (out .exit) ≡ column 8 8 (length (now (out .entry))) (drop 20 (now (bytes .entry))) ⌝ }
 {
-    if !framed(bytes, stamps.len()) {
-        return GossipHead {
-            prev: 1,
-            curr: 0,
-            count: 0,
-        };
+    let mut i: usize = 0;
+    while i < out.len() {
+        out[i] = word_at(bytes, STAMPS_AT + 8 * i);
+        i += 1;
     }
+}
+
+// The head of a message that has a frame, and its stamps, unjudged, at the list's front. The two numbers are read last: before the loop the compiler would
+// load them byte by byte.
+fn read_message(bytes: &[u8], stamps: &mut [u64]) -> GossipHead
+    requires { ⌜ (framedB (now bytes) ≡ true) × (length (now stamps) ≡ 16) ⌝ }
+    ensures { λ r. ⌜ Spoken (now (bytes .entry)) r (now (stamps .exit)) ⌝ }
+{
     let count = bytes[COUNT_AT] as usize;
+    read_stamps(bytes, &mut stamps[..count]);
     let prev = word_at(bytes, PREV_AT);
     let curr = word_at(bytes, CURR_AT);
-    fields::get_column(bytes, STAMPS_AT, 8, 8, &mut stamps[..count]);
     GossipHead { prev, curr, count }
 }
 
-// A gossip that answered Shape for the stamps themselves: the bytes were no message.
-pub fn misheard(code: u64, prev: u64, curr: u64, stamps: &[u64]) -> bool
-    ensures { λ r. ⌜ r ≡ misheardB code prev curr (now (stamps .entry)) ⌝ }
+// A refusal leaves heads and place as they were.
+fn refused(heads: Heads, answer: Answer, place: Place) -> Changed
+    ensures { λ r. ⌜ r ≡ record { heads = heads; answer = answer; place = place } ⌝ }
 {
-    if code != 3 {
-        return false;
+    Changed {
+        heads,
+        answer,
+        place,
     }
-    !rules::stamps_shaped(prev, curr, stamps)
 }
 
-// What the bytes tell is taken as gossip is.
+// What the bytes tell is taken as gossip is, in the same order; bytes that are no message are refused before the journal's shape is asked.
 pub fn hear(
     disk: &Disk,
     dated: &Disk,
@@ -106,36 +108,35 @@ pub fn hear(
 ) -> Changed
     ensures { λ r. ⌜ Left (model.hear (contents (now (disk .entry)) (now (dated .entry)) (now (pending .entry)) (now (past .entry)) (now (snapshots .entry)) (now (copies .entry)) (now (copied .entry)) h) (now (journal .entry)) (used .at) (now (message .entry))) (r .answer) (contents (now (disk .entry)) (now (dated .entry)) (now (pending .entry)) (now (past .exit)) (now (snapshots .exit)) (now (copies .entry)) (now (copied .entry)) (r .heads)) (now (journal .exit)) (r .place .at) ⌝ }
 {
+    tables::laid(*disk, *dated, *pending, *past, *snapshots, *copies, *copied);
+    if damage::damaged(pending, past, snapshots, copies, h) {
+        return refused(h, Answer::Damaged, used);
+    }
+    if !framed(message) {
+        return refused(h, Answer::Malformed(0), used);
+    }
     let mut room = [0u64; 16];
     let head = read_message(message, &mut room);
     let prev = head.prev;
     let curr = head.curr;
     let count = head.count;
     let stamps = &room[..count];
-    let done = changes::gossiping::gossip(
-        disk,
-        dated,
-        pending,
-        past,
-        snapshots,
-        copies,
-        copied,
-        h,
-        journal,
-        used,
-        prev,
-        curr,
-        stamps,
-    );
-    let heads = done.heads;
-    let answer = done.answer;
-    let place = done.place;
-    if misheard(answer.code(), prev, curr, stamps) {
-        return Changed {
-            heads,
-            answer: Answer::Malformed(0),
-            place,
-        };
+    if !rules::stamps_shaped(prev, curr, stamps) {
+        return refused(h, Answer::Malformed(0), used);
     }
-    done
+    if !changes::settling::journal_shaped(journal, used) {
+        return refused(h, Answer::Shape, used);
+    }
+    let verdict = gossips::judge_gossip(snapshots, h, prev, curr, stamps);
+    let answer = changes::settling::settled(verdict, journal, used, 18 + 8 * count);
+    if answer.code() != 0 {
+        return refused(h, answer, used);
+    }
+    let heads = gossips::apply_gossip(past, snapshots, copies, h, curr, stamps);
+    let place = used.append_gossip(journal, prev, curr, stamps);
+    Changed {
+        heads,
+        answer,
+        place,
+    }
 }

@@ -7,8 +7,9 @@ use native.Mathlib.Nat.{add-assoc, add-zero}
 use native.Mathlib.Numerals.{add-one}
 use native.Mathlib.Omega.{arith}
 use lib.ListN.{length, take, drop, length-append, length-take, length-drop, getD, take-append-drop, drop-of-length-le}
-use lib.Seq.{take-at, drop-append-add, drop-drop, drop-cons}
+use lib.Seq.{take-at, drop-at, take-take, take-append-le, length-take-le, drop-append-add, drop-drop, drop-cons}
 use lib.Dec.{eqb}
+use Rattle.fields.proofs.Laws.{be-length}
 use Rattle.model.specs.Lists.{pick}
 use Rattle.model.specs.Bytes.{be, writeAt}
 use Rattle.model.specs.Changes.{Write, Change, commit, gossip, flush, paired}
@@ -26,7 +27,7 @@ write-write at xs ys j h =
     ap (λ (n : ℕ). drop (n + length ys) ((take at j ++ xs) ++ drop (at + length xs) j)) (sym l) ∙ drop-append-add (take at j ++ xs) (drop (at + length xs) j) (length ys) in
     rw (w, t, d, drop-drop) (simp (append-assoc, length-append, add-assoc))
 
-pub moved-length : {xs j j₁ : List ℕ} {at at₁ : ℕ} → Moved xs j at j₁ at₁ → at + length xs ≤ length j → length j₁ ≡ length j
+moved-length : {xs j j₁ : List ℕ} {at at₁ : ℕ} → Moved xs j at j₁ at₁ → at + length xs ≤ length j → length j₁ ≡ length j
 moved-length m h = ap length (m .journal) ∙ simp (length-append, length-take, length-drop) (omega arith)
 
 pub moved-none : (j : List ℕ) (at : ℕ) → Moved [] j at j at
@@ -38,6 +39,20 @@ moved-then {xs} {ys} {j} {j₁} {j₂} {at} m n h = record {
   journal = n .journal ∙ rw (m .place, m .journal) (write-write at xs ys j h);
   place = simp length-append (omega arith);
 }
+
+-- xs before ys, which are there already
+pub moved-before : {xs ys j j₁ j₂ : List ℕ} {at m end : ℕ} → Moved ys j m j₁ end → Moved xs j₁ at j₂ m → end ≤ length j → Moved (xs ++ ys) j at j₂ end
+moved-before {xs} {ys} {j} {j₁} {j₂} {at} {m} p q h =
+    let b = ys ++ drop (m + length ys) j in
+    let l : length (take m j) ≡ m = length-take-le m j (omega arith) in
+    let t : take at (take m j ++ b) ≡ take at j = take-append-le at (take m j) b (omega arith) ∙ take-take at m j (omega arith) in
+    let d : drop (at + length xs) (take m j ++ b) ≡ b = drop-at (take m j) b (at + length xs) (omega arith) in
+    let n : m + length ys ≡ at + length (xs ++ ys) = simp length-append (omega arith) in
+    record { journal = q .journal ∙ rw (p .journal, t, d, append-assoc, sym n); place = p .place ∙ n }
+
+-- a field at its place
+pub field-moved : {j j₁ : List ℕ} (at w x : ℕ) {at₁ : ℕ} → at₁ ≡ at + w → j₁ ≡ writeAt at (be w x) j → Moved (be w x) j at j₁ at₁
+field-moved at w x p e = record { journal = e; place = omega (arith, be-length w x) }
 
 -- ---- the whole is to be written to j₀ at at₀; it is, up to j and at, where the rest is left to be written
 pub record Left (whole rest j₀ : List ℕ) (at₀ : ℕ) (j : List ℕ) (at : ℕ) : Type 0 where
@@ -93,16 +108,28 @@ encode-length (commit t ws) = omega (arith, writes-length ws)
 encode-length (gossip prev curr stamps) = omega (arith, stamps-length stamps)
 encode-length (flush p) = refl
 
--- a record's fields as they are written, the count told by the list that is lent
+-- a commit's fields as they are written, the count told by the list that is lent
 pub commit-all : {j : List ℕ} {at : ℕ} (t : ℕ) (os vs : List ℕ) → length os ≡ length vs → at + (12 + 10 * length os) ≤ length j
     → Left (encode (commit t (paired os vs))) (be 2 (10 + 10 * length os) ++ (be 1 1 ++ (be 8 t ++ (be 1 (length os) ++ writeBytes (paired os vs))))) j at j at
 unfolding encode
 commit-all t os vs e h = rw (paired-length os vs e) (left-all (omega (arith, writes-length (paired os vs), paired-length os vs e)))
 
-pub gossip-all : {j : List ℕ} {at : ℕ} (prev curr : ℕ) (ss : List ℕ) → at + (20 + 8 * length ss) ≤ length j
-    → Left (encode (gossip prev curr ss)) (be 2 (18 + 8 * length ss) ++ (be 1 2 ++ (be 8 prev ++ (be 8 curr ++ (be 1 (length ss) ++ stampBytes ss))))) j at j at
-unfolding encode
-gossip-all prev curr ss h = left-all (omega (arith, stamps-length ss))
+-- a gossip message's fields at their places: before prev the length and the kind, then the count and the stamps, and curr between
+module _ {j₁ j₂ j₃ j₄ j₅ j₆ : List ℕ} {end : ℕ} (at p c : ℕ) (ss j : List ℕ) (h : at + (20 + 8 * length ss) ≤ length j)
+    (prev : j₁ ≡ writeAt (at + 3) (be 8 p) j) (size : j₂ ≡ writeAt at (be 2 (18 + 8 * length ss)) j₁) (kind : j₃ ≡ writeAt (at + 2) (be 1 2) j₂)
+    (count : j₄ ≡ writeAt (at + 19) (be 1 (length ss)) j₃) (stamps : Moved (stampBytes ss) j₄ (at + 20) j₅ end) (curr : j₆ ≡ writeAt (at + 11) (be 8 c) j₅) where
+  pub gossip-written : Moved (encode (gossip p c ss)) j at j₆ end
+  unfolding encode
+  gossip-written =
+      let n = stamps-length ss in
+      let prev-moved : Moved (be 8 p) j (at + 3) j₁ (at + 11) = field-moved (at + 3) 8 p (omega arith) prev in
+      let kept = moved-length prev-moved (omega arith) in
+      let kind-moved : Moved (be 1 2) j₂ (at + 2) j₃ (at + 3) = field-moved (at + 2) 1 2 (omega arith) kind in
+      let front = moved-before prev-moved (moved-then (field-moved at 2 (18 + 8 * length ss) refl size) kind-moved (omega arith)) (omega arith) in
+      let kept-all = moved-length front (omega arith) in
+      let count-moved : Moved (be 1 (length ss)) j₃ (at + 19) j₄ (at + 20) = field-moved (at + 19) 1 (length ss) (omega arith) count in
+      let curr-moved : Moved (be 8 c) j₅ (at + 11) j₆ (at + 19) = field-moved (at + 11) 8 c (omega arith) curr in
+      moved-then front (moved-before (moved-then count-moved stamps (omega arith)) curr-moved (omega arith)) (omega arith)
 
 -- ---- the version byte, and a record behind it
 begun-bytes : (b : Bool) (xs : List ℕ) → pick b (version ∷ xs) xs ≡ pick b (version ∷ []) [] ++ xs

@@ -15,6 +15,17 @@ pub struct Place {
     pub at: usize,
 }
 
+// Where the fields of a gossip record stand behind its length.
+pub const KIND_AT: usize = 2;
+
+pub const PREV_AT: usize = 3;
+
+pub const CURR_AT: usize = 11;
+
+pub const COUNT_AT: usize = 19;
+
+pub const STAMPS_AT: usize = 20;
+
 impl Place {
     // A number as a field of width bytes.
     fn put(self, j: &mut [u8], width: usize, x: u64) -> Place
@@ -41,7 +52,8 @@ impl Place {
         p
     }
 
-    fn put_stamps(self, j: &mut [u8], stamps: &[u64]) -> Place
+    // Stamps one behind another.
+    pub fn put_stamps(self, j: &mut [u8], stamps: &[u64]) -> Place
         requires { ⌜ self .at + 8 * length (now stamps) ≤ length (now j) ⌝ }
         ensures { λ r. ⌜ Moved (stampBytes (now (stamps .entry))) (now (j .entry)) (self .at) (now (j .exit)) (r .at) ⌝ }
     {
@@ -66,17 +78,21 @@ impl Place {
         d.put_writes(j, objects, values)
     }
 
-    fn put_gossip(self, j: &mut [u8], prev: u64, curr: u64, stamps: &[u64]) -> Place
+    // A gossip record. Each of its two long fields comes first behind a branch or a loop: there the compiler makes one store of it, elsewhere eight.
+    pub fn put_gossip(self, j: &mut [u8], prev: u64, curr: u64, stamps: &[u64]) -> Place
         requires { ⌜ (length (now stamps) ≤ 16) × (self .at + (20 + 8 * length (now stamps)) ≤ length (now j)) ⌝ }
         ensures { λ r. ⌜ Moved (encode (gossip prev curr (now (stamps .entry)))) (now (j .entry)) (self .at) (now (j .exit)) (r .at) ⌝ }
     {
+        let at = self.at;
         let count = stamps.len() as u64;
-        let a = self.put(j, 2, 18 + 8 * count);
-        let b = a.put(j, 1, 2);
-        let c = b.put(j, 8, prev);
-        let d = c.put(j, 8, curr);
-        let e = d.put(j, 1, count);
-        e.put_stamps(j, stamps)
+        fields::put_be(j, at + PREV_AT, 8, prev);
+        fields::put_be(j, at, 2, 18 + 8 * count);
+        fields::put_be(j, at + KIND_AT, 1, 2);
+        fields::put_be(j, at + COUNT_AT, 1, count);
+        let rows = Place { at: at + STAMPS_AT };
+        let end = rows.put_stamps(j, stamps);
+        fields::put_be(j, at + CURR_AT, 8, curr);
+        end
     }
 
     fn put_flush(self, j: &mut [u8], page: u64) -> Place

@@ -1,6 +1,5 @@
 pub mod Calling
 pub mod Lends
-pub mod Lists
 pub mod Locals
 pub mod Opening
 pub mod Parts

@@ -1,18 +1,14 @@
 -- What a call below promises of its answer, as what the caller is told.
 use Prim.Native.Nat.{ℕ}
-use mathlib.Core.Path.{_≡_, refl, ap, sym, _∙_, subst}
-use mathlib.Core.Bool.{Bool, true, false}
+use mathlib.Core.Path.{_≡_, ap, _∙_}
 use mathlib.Core.List.{List}
-use lib.ListN.{take}
 use lib.IntN.{ℤ}
 use Rattle.model.specs.declared.Answer.{Answer}
-use Rattle.model.specs.declared.Answer.the-variants.{Done, Malformed}
+use Rattle.model.specs.declared.Answer.the-variants.{Done}
 use Rattle.model.specs.declared.Figures.{Figures}
 use Rattle.model.specs.Answers.{codeOf, numberOf}
-use Rattle.model.specs.Lists.{pick}
 use Rattle.model.specs.Store.{Store}
-use Rattle.model.specs.Calls.{Outcome, gossipCall}
-use Rattle.model.specs.Exchange.{hear}
+use Rattle.model.specs.Calls.{Outcome}
 use Rattle.model.specs.Reads as reads
 use Rattle.model.specs.Restart.{Restarted}
 use Rattle.model.specs.Coordinator.{Coordinator, freshCoordinator, Granting, Messaged}
@@ -22,13 +18,10 @@ use Rattle.reads.specs.declared.Knowledge as knowledges
 use Rattle.reads.specs.Read.{Read}
 use Rattle.reads.specs.Knows.{Knows}
 use Rattle.restart.specs.Promises.{Rebuilt}
-use Rattle.journal.specs.declared.walk.GossipHead.{GossipHead}
-use Rattle.exchange.specs.Messages.{Spoken, misheardB}
-use Rattle.exchange.proofs.Messages.{heard}
 use Rattle.coordinator.specs.States as states
 use Rattle.repository.specs.declared.Moved.{Moved}
 use Rattle.repository.specs.declared.Reply.{Reply}
-use Rattle.repository.specs.Faces.{Told, Changed, Mended, Begun, Shown, Stood, Knew}
+use Rattle.repository.specs.Faces.{Told, Changed, Begun, Shown, Stood, Knew}
 use Rattle.repository.specs.Coordinating.{Granted, Sent, begun as anew, Resumed}
 
 module _ {answer : Answer} {place : ℕ} {r : Moved} {store : Store} where
@@ -48,26 +41,6 @@ module _ {answer : Answer} {place : ℕ} {r : Moved} {store : Store} where
     placed = t .placed ∙ l .place-is;
     contains = l .contains;
   }
-
--- what a message's gossip is told, mended, is what `hear` says of the message
-pick-ap : {A B : Type 0} (f : A → B) (b : Bool) (x y : A) → pick b (f x) (f y) ≡ f (pick b x y)
-pick-ap f true x y = refl
-pick-ap f false x y = refl
-
-module _ (bytes : List ℕ) (st : Store) (j : List ℕ) (used : ℕ) where
-  pub mended : {h : GossipHead} {room : List ℕ} {told r : Moved} {st′ : Store} {j′ : List ℕ} → Spoken 16 bytes h room
-      → Changed (gossipCall st j used (h .prev) (h .curr) (take (h .count) room)) told st′ j′ → Mended told (h .prev) (h .curr) (take (h .count) room) r → Changed (hear st j used bytes) r st′ j′
-  mended {h} {room} {told} {r} {st′} {j′} s c m =
-      let x = gossipCall st j used (h .prev) (h .curr) (take (h .count) room) in
-      let b = misheardB (codeOf (x .answer)) (h .prev) (h .curr) (take (h .count) room) in
-      let e = ap (λ (n : ℕ). misheardB n (h .prev) (h .curr) (take (h .count) room)) (c .coded) in
-      subst (λ (y : Outcome). Changed y r st′ j′) (sym (heard bytes st j used s)) (record {
-        coded = m .coded ∙ (λ i. pick (e i) 16 (c .coded i)) ∙ pick-ap codeOf b (Malformed 0) (x .answer);
-        numbered = m .numbered ∙ (λ i. pick (e i) 0 (c .numbered i)) ∙ pick-ap numberOf b (Malformed 0) (x .answer);
-        placed = m .placed ∙ c .placed;
-        contains = c .contains;
-        journal-is = c .journal-is;
-      })
 
 pub shown : {x : reads.Shown} {answer : Answer} {buffer : List ℕ} {r : Reply} → Read x answer buffer
     → (r .code ≡ codeOf answer) × (r .number ≡ numberOf answer) → Shown x r buffer

@@ -5,14 +5,12 @@ use mathlib.Core.List.{List}
 use lib.ListN.{length}
 use Rattle.model.specs.declared.Answer.{Answer}
 use Rattle.model.specs.Answers.{codeOf, numberOf}
-use Rattle.model.specs.Lists.{pick}
 use Rattle.model.specs.Store as model
 use Rattle.model.specs.Calls.{Outcome}
 use Rattle.model.specs.Reads as reads
 use Rattle.model.specs.Restart as starts
 use Rattle.tables.specs.Contents.{contents}
 use Rattle.reads.specs.Knows.{padded}
-use Rattle.exchange.specs.Messages.{misheardB}
 use Rattle.repository.specs.declared.Store.{Store}
 use Rattle.repository.specs.declared.Moved.{Moved}
 use Rattle.repository.specs.declared.Reply.{Reply}
@@ -36,12 +34,6 @@ pub record Changed (x : Outcome) (r : Moved) (store : model.Store) (journal : Li
   pub placed : r .place ≡ x .place
   pub contains : store ≡ x .store
   pub journal-is : journal ≡ x .journal
-
--- what a message's gossip is told, as the caller of hear is: 16 and 0 for a Shape that is the stamps' own
-pub record Mended (told : Moved) (prev curr : ℕ) (stamps : List ℕ) (r : Moved) : Type 0 where
-  pub coded : r .code ≡ pick (misheardB (told .code) prev curr stamps) 16 (told .code)
-  pub numbered : r .number ≡ pick (misheardB (told .code) prev curr stamps) 0 (told .number)
-  pub placed : r .place ≡ told .place
 
 -- fresh and restart: code, number, place, contents of the store
 pub record Begun (x : starts.Restarted) (r : Moved) (store : model.Store) : Type 0 where

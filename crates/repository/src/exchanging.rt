@@ -24,7 +24,7 @@ pub extern "C" fn jibcradle_ask(store: &Store, to: u64, buffer: &mut [u8]) -> Re
     )
 }
 
-// Takes the bytes of a message as gossip: the store goes to gossip's own face as it came.
+// Takes the bytes of a message as gossip.
 #[no_mangle]
 pub extern "C" fn jibcradle_hear(
     store: &mut Store,
@@ -34,16 +34,19 @@ pub extern "C" fn jibcradle_hear(
 ) -> Moved
     ensures { λ r. ⌜ Changed (model.hear (stored (now (store .entry))) (now (journal .entry)) used (now (message .entry))) r (stored (now (store .exit))) (now (journal .exit)) ⌝ }
 {
-    let mut room = [0u64; 16];
-    let head = exchange::hearing::read_message(message, &mut room);
-    let stamps = &room[..head.count];
-    let moved = crate::changing::jibcradle_gossip(
-        store,
+    let s = crate::steps::hear(
+        &mut store.disk,
+        &mut store.dated,
+        &mut store.pending,
+        &mut store.past,
+        &mut store.snapshots,
+        &mut store.copies,
+        &mut store.copied,
+        store.heads,
         journal,
         used,
-        head.prev,
-        head.curr,
-        stamps,
+        message,
     );
-    crate::steps::heard(moved, head.prev, head.curr, stamps)
+    store.heads = s.heads;
+    s.moved
 }

@@ -19,7 +19,7 @@ ghost use Rattle.model.specs.Exchange as exchanges;
 ghost use Rattle.model.specs.Reads as reads;
 ghost use Rattle.model.specs.Restart as starts;
 ghost use Rattle.tables.specs.Contents.{contents};
-ghost use Rattle.repository.specs.Faces.{Told, Changed, Mended, Begun, Shown, Stood, Knew};
+ghost use Rattle.repository.specs.Faces.{Told, Changed, Begun, Shown, Stood, Knew};
 
 // What a change or a start hands back: the heads, and what the caller is told.
 pub struct Step {
@@ -159,18 +159,39 @@ pub fn flush(
     Step { heads: h, moved }
 }
 
-// What a message's gossip is told, as the caller of hear is: 16 for a Shape that is the stamps' own.
-pub fn heard(moved: Moved, prev: u64, curr: u64, stamps: &[u64]) -> Moved
-    ensures { λ r. ⌜ Mended moved prev curr (now (stamps .entry)) r ⌝ }
+pub fn hear(
+    disk: &mut Disk,
+    dated: &mut Disk,
+    pending: &mut PendingTable,
+    past: &mut PastTable,
+    snapshots: &mut Snapshots,
+    copies: &mut CopyTable,
+    copied: &mut Copied,
+    heads: Heads,
+    journal: &mut [u8],
+    used: usize,
+    message: &[u8],
+) -> Step
+    ensures { λ r. ⌜ Changed (exchanges.hear (contents (now (disk .entry)) (now (dated .entry)) (now (pending .entry)) (now (past .entry)) (now (snapshots .entry)) (now (copies .entry)) (now (copied .entry)) heads) (now (journal .entry)) used (now (message .entry))) (r .moved) (contents (now (disk .exit)) (now (dated .exit)) (now (pending .exit)) (now (past .exit)) (now (snapshots .exit)) (now (copies .exit)) (now (copied .exit)) (r .heads)) (now (journal .exit)) ⌝ }
 {
-    if exchange::hearing::misheard(moved.code, prev, curr, stamps) {
-        return Moved {
-            code: 16,
-            number: 0,
-            place: moved.place,
-        };
-    }
-    moved
+    let c = exchange::hearing::hear(
+        disk,
+        dated,
+        pending,
+        past,
+        snapshots,
+        copies,
+        copied,
+        heads,
+        journal,
+        Place { at: used },
+        message,
+    );
+    let h = c.heads;
+    let answer = c.answer;
+    let place = c.place;
+    let moved = moved_to(answer, place);
+    Step { heads: h, moved }
 }
 
 pub fn fresh(

@@ -1,4 +1,4 @@
--- `kept::put_state` meets its contract: the fields one behind another, and the stamps behind them, are the state's bytes.
+-- `kept::put_state` meets its contract: the fields at their places, and the stamps behind them, are the state's bytes.
 use borrow.Author.Needs.{needs}
 use Rattle.coordinator.proofs.Keeping.{state-written}
 use Rattle.coordinator.proofs.kept.put_state.Statement.{statement}
@@ -21,11 +21,13 @@ same-length c = search needs
 
 returns : tie.Need-returns
 returns c =
-    let s : tie.Start = search (c) in
-    let p₁ : tie.After-put-be = search (c) in
-    let p₂ : tie.After-put-be2 = search (c) in
-    let p₃ : tie.After-put-be3 = search (c) in
-    state-written (s .args .sent) (s .args .stamps .now) (s .args .buffer .now) (s .pre) (p₁ .put-be .ensures) (p₂ .put-be2 .ensures) (p₃ .put-be3 .ensures) (c .before .before .put-stamps .ensures)
+    let stamps : tie.After-put-stamps = search (c) in
+    let count : tie.After-put-be3 = search (stamps) in
+    let version : tie.After-put-be2 = search (count) in
+    let sent : tie.After-put-be = search (version) in
+    let s : tie.Start = search (sent) in
+    state-written (s .args .sent) (s .args .stamps .now) (s .args .buffer .now) (s .pre)
+    (sent .put-be .ensures) (version .put-be2 .ensures) (count .put-be3 .ensures) (stamps .put-stamps .ensures)
 
 pub put-state-spec : {M : Type 1} → statement M
 put-state-spec =

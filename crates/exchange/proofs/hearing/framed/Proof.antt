@@ -7,7 +7,7 @@ use Rattle.exchange.proofs.hearing.framed.Statement.{statement}
 use Rattle.exchange.proofs.hearing.framed.Tie as tie
 
 returns : tie.Need-returns
-returns c = let a = (c .before .before) .args in too-short (a .most) (a .bytes .now) (c .if1 .taken)
+returns c = let a = (c .before .before) .args in too-short (a .bytes .now) (c .if1 .taken)
 
 get-be-requires : tie.Need-get-be-requires
 get-be-requires c κs = search needs
@@ -19,13 +19,13 @@ returns-2 : tie.Need-returns-2
 returns-2 c =
     let s : tie.Start = search (c) in
     let g : tie.After-get-be = search (c) in
-    other-length (s .args .most) (s .args .bytes .now) (λ e. c .if2 .taken (g .get-be .ensures ∙ e))
+    other-length (s .args .bytes .now) (λ e. c .if2 .taken (g .get-be .ensures ∙ e))
 
 shared-slice-read-if3 : tie.Need-shared-slice-read-if3
 shared-slice-read-if3 c = search needs
 
 returns-3 : tie.Need-returns-3
-returns-3 c = let s : tie.Start = search (c) in other-kind (s .args .most) (s .args .bytes .now) (c .if3 .taken)
+returns-3 c = let s : tie.Start = search (c) in other-kind (s .args .bytes .now) (c .if3 .taken)
 
 shared-slice-read-count : tie.Need-shared-slice-read-count
 shared-slice-read-count c = search needs
@@ -34,7 +34,7 @@ cast-count : tie.Need-cast-count
 cast-count c = omega (arith, c .shared-slice-known3 .given 19)
 
 returns-4 : tie.Need-returns-4
-returns-4 c = let s : tie.Start = search (c) in too-many (s .args .most) (s .args .bytes .now) (c .if4 .taken)
+returns-4 c = let s : tie.Start = search (c) in too-many (s .args .bytes .now) (c .if4 .taken)
 
 mul-result : tie.Need-mul-result
 mul-result c = let k : tie.After-shared-slice-known3 = search (c) in omega (arith, k .shared-slice-known3 .given 19)
@@ -49,7 +49,7 @@ returns-5 c =
     let g : tie.After-get-be = search (c) in
     let l : tie.Else2 = search (c) in
     let k : tie.Else3 = search (c) in
-    by-size (s .args .most) (s .args .bytes .now) (n .if1 .left) (sym (g .get-be .ensures) ∙ l .if2 .left) (k .if3 .left) (c .if4 .left)
+    by-size (s .args .bytes .now) (n .if1 .left) (sym (g .get-be .ensures) ∙ l .if2 .left) (k .if3 .left) (c .if4 .left)
 
 pub framed-spec : {M : Type 1} → statement M
 framed-spec =

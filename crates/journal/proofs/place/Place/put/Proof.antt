@@ -1,7 +1,6 @@
 -- `Place::put` meets its contract: `put_be` wrote the field, which has as many bytes as its width says.
-use Rattle.fields.proofs.Laws.{be-length}
-use Prim.Native.Nat.{_+_}
-use mathlib.Core.Path.{ap, sym}
+use Rattle.journal.proofs.Places.{field-moved}
+use mathlib.Core.Path.{refl}
 use borrow.Author.Needs.{needs}
 use Rattle.journal.proofs.place.Place.put.Statement.{statement}
 use Rattle.journal.proofs.place.Place.put.Tie as tie
@@ -17,8 +16,9 @@ same-length c = search needs
 
 returns : tie.Need-returns
 returns c =
-    let a = c .before .before .before .before .before .args in
-    record { journal = c .before .before .put-be .ensures; place = ap (λ n. a .self .at + n) (sym (be-length (a .width) (a .x))) }
+    let p : tie.After-put-be = search (c) in
+    let s : tie.Start = search (p) in
+    field-moved (s .args .self .at) (s .args .width) (s .args .x) refl (p .put-be .ensures)
 
 pub put-spec : {M : Type 1} → statement M
 put-spec = tie.close (tie.spec put-be-requires add-t9 same-length returns)

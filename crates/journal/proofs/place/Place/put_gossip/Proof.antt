@@ -1,60 +1,79 @@
--- `Place::put_gossip` meets its contract: its fields one behind another are the gossip message's record.
-use Rattle.journal.proofs.Places.{left-next, left-last, gossip-all}
-use native.Mathlib.Omega.{arith}
+-- `Place::put_gossip` meets its contract: its fields, each at its place, are the gossip message's record.
+use Rattle.journal.proofs.Places.{gossip-written}
 use borrow.Author.Needs.{needs}
 use Rattle.journal.proofs.place.Place.put_gossip.Statement.{statement}
 use Rattle.journal.proofs.place.Place.put_gossip.Tie as tie
 
-mul-put : tie.Need-mul-put
-mul-put c = search needs
+add-put-be : tie.Need-add-put-be
+add-put-be c = search needs
 
-add-put : tie.Need-add-put
-add-put c = search needs
+put-be-requires : tie.Need-put-be-requires
+put-be-requires c κs = search needs
 
-put-requires : tie.Need-put-requires
-put-requires c κs = search needs
+mul-put-be : tie.Need-mul-put-be
+mul-put-be c = search needs
 
-put-requires-2 : tie.Need-put-requires-2
-put-requires-2 c κs = search needs
+add-put-be-2 : tie.Need-add-put-be-2
+add-put-be-2 c = search needs
 
-put-requires-3 : tie.Need-put-requires-3
-put-requires-3 c κs = search needs
+put-be-requires-2 : tie.Need-put-be-requires-2
+put-be-requires-2 c κs = search needs
 
-put-requires-4 : tie.Need-put-requires-4
-put-requires-4 c κs = search needs
+add-put-be-3 : tie.Need-add-put-be-3
+add-put-be-3 c = search needs
 
-put-requires-5 : tie.Need-put-requires-5
-put-requires-5 c κs = search needs
+put-be-requires-3 : tie.Need-put-be-requires-3
+put-be-requires-3 c κs = search needs
+
+add-put-be-4 : tie.Need-add-put-be-4
+add-put-be-4 c = search needs
+
+put-be-requires-4 : tie.Need-put-be-requires-4
+put-be-requires-4 c κs = search needs
+
+add-put-be-5 : tie.Need-add-put-be-5
+add-put-be-5 c = search needs
 
 put-stamps-requires : tie.Need-put-stamps-requires
-put-stamps-requires c κs = omega (arith, c .before .before .before .before .before .before .before .before .before .before .before .before .before .before .before .before .before .before .before .before .before .before .before .pre .1)
+put-stamps-requires c κs = search needs
+
+add-put-be-6 : tie.Need-add-put-be-6
+add-put-be-6 c = search needs
+
+put-be-requires-5 : tie.Need-put-be-requires-5
+put-be-requires-5 c κs = search needs
 
 same-length : tie.Need-same-length
 same-length c = search needs
 
 returns : tie.Need-returns
 returns c =
-    let p₆ = c .before .before in
-    let p₅ = p₆ .before .before .before .before in
-    let p₄ = p₅ .before .before .before .before in
-    let p₃ = p₄ .before .before .before .before in
-    let p₂ = p₃ .before .before .before .before in
-    let p₁ = p₂ .before .before .before .before in
-    let l = gossip-all _ _ (p₁ .before .before .before .before .args .stamps .now) (p₁ .before .before .before .before .pre .1) in
-    left-last (p₆ .put-stamps .ensures)
-    (left-next (p₅ .put5 .ensures) (left-next (p₄ .put4 .ensures) (left-next (p₃ .put3 .ensures) (left-next (p₂ .put2 .ensures) (left-next (p₁ .put .ensures) l)))))
+    let curr : tie.After-put-be5 = search (c) in
+    let stamps : tie.After-put-stamps = search (curr) in
+    let count : tie.After-put-be4 = search (stamps) in
+    let kind : tie.After-put-be3 = search (count) in
+    let size : tie.After-put-be2 = search (kind) in
+    let prev : tie.After-put-be = search (size) in
+    let s : tie.Start = search (prev) in
+    gossip-written (s .args .self .at) (s .args .prev) (s .args .curr) (s .args .stamps .now) (s .args .j .now) (s .pre .1)
+    (prev .put-be .ensures) (size .put-be2 .ensures) (kind .put-be3 .ensures) (count .put-be4 .ensures) (stamps .put-stamps .ensures) (curr .put-be5 .ensures)
 
 pub put-gossip-spec : {M : Type 1} → statement M
 put-gossip-spec =
     tie.close
     (tie.spec
-    mul-put
-    add-put
-    put-requires
-    put-requires-2
-    put-requires-3
-    put-requires-4
-    put-requires-5
+    add-put-be
+    put-be-requires
+    mul-put-be
+    add-put-be-2
+    put-be-requires-2
+    add-put-be-3
+    put-be-requires-3
+    add-put-be-4
+    put-be-requires-4
+    add-put-be-5
     put-stamps-requires
+    add-put-be-6
+    put-be-requires-5
     same-length
     returns)
