@@ -1,4 +1,6 @@
 // What the keeper's command says of each call: whole lines, each written at the front of lent bytes.
+#![tactic(auto)]
+
 mod hex;
 mod put;
 pub mod records;

@@ -1,4 +1,6 @@
 // A commit without its journal: judged over the tables, then written to them. Restart uses both as they stand.
+#![tactic(auto)]
+
 ghost use Rattle.std.specs.Prelude.{◌≡◌, true, false, List, map, ℕ, ◌+◌, ◌≤◌, ◌<◌, max, length, take, leb};
 ghost use Rattle.model.specs.declared.Pending.{Pending};
 ghost use Rattle.model.specs.Lists.{both, rising_from, twice_b};

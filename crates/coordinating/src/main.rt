@@ -1,5 +1,7 @@
 // The coordinator's command: a call for each line of input, an answer line for each. With a file it keeps its state there, whole, from
 // call to call; without one in memory. `--demo` shows a few calls.
+#![tactic(auto)]
+
 mod demo;
 mod desk;
 mod help;

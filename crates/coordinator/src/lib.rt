@@ -1,4 +1,6 @@
 // The coordinator: it grants snapshots, and tells the repositories of them. No public call requires anything.
+#![tactic(auto)]
+
 pub mod kept;
 pub mod messages;
 

@@ -1,4 +1,6 @@
 // Restart from every leading part of a small journal, and from that journal with each of its bytes changed in turn.
+#![tactic(auto)]
+
 mod write;
 
 // Restart from these bytes, as a line: the answer, the place, standing. No table is empty before, so what is empty after was emptied.

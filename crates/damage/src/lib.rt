@@ -1,4 +1,6 @@
 // Damaged, exactly document 01's list: tested for every content of the tables and every value of the heads.
+#![tactic(auto)]
+
 ghost use Rattle.std.specs.Prelude.{◌≡◌, Bool, false, List, map, ℕ, ◌≤◌, length, take, get_or, ltb, leb};
 ghost use Rattle.model.specs.Lists.{either, any_b, twice_b};
 ghost use Rattle.model.specs.Damage as model;

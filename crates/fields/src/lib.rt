@@ -1,5 +1,7 @@
 // Numbers as big-endian bytes, written to a slice and read from one. The width is a number of bytes.
 // All three require that the bytes are there: whoever calls has tested that before.
+#![tactic(auto)]
+
 ghost use Rattle.std.specs.Prelude.{◌≡◌, ◌≤◌, ◌+◌, ◌*◌, length, take, drop};
 ghost use Rattle.model.specs.Bytes.{be, from_be, column, write_at};
 

@@ -1,4 +1,6 @@
 // Files that are kept: their bytes there for good, and the lock that keeps other programs off them.
+#![tactic(auto)]
+
 pub mod file;
 pub mod fit;
 pub mod holder;

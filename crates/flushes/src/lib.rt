@@ -1,4 +1,6 @@
 // A flush without its journal: judged over the tables, then written to them. Restart uses both as they stand.
+#![tactic(auto)]
+
 mod archive;
 mod dues;
 mod judge;

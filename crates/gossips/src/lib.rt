@@ -1,4 +1,6 @@
 // A gossip message without its journal: judged over the tables, then written to them. Restart uses both as they stand.
+#![tactic(auto)]
+
 ghost use Rattle.std.specs.Prelude.{◌≡◌, true, List, [], ℕ, ◌+◌, ◌≤◌, min, length, take, drop, ltb, leb};
 ghost use Rattle.model.specs.Lists.{both, all_b, kept, rising_from};
 ghost use Rattle.model.specs.Judgement.{compared, judge_gossip};

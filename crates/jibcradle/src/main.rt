@@ -1,5 +1,7 @@
 // The keeper's command: a call for each line of input, an answer line for each. `jibcradle JOURNAL` keeps the store in a file,
 // `jibcradle` in memory, `jibcradle --demo` shows document 01's worked night, and `jibcradle --records JOURNAL` lists a journal.
+#![tactic(auto)]
+
 mod demo;
 mod desk;
 mod help;

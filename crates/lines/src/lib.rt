@@ -1,4 +1,6 @@
 // One line of the keeper's command, read as a call. specs/Lines.antt says what each line means.
+#![tactic(auto)]
+
 mod calls;
 pub mod hex;
 mod lists;

@@ -1,4 +1,6 @@
 // A journal's records as lines that the command reads again as calls, each with its offset and its length behind a `#`.
+#![tactic(auto)]
+
 use answers::ROOM;
 use journal::place::Place;
 use journal::walk::{CommitHead, GossipHead, Record, Step};

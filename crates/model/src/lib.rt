@@ -1,5 +1,7 @@
 // What every other crate speaks in: the rows of the store and the answers of its calls.
 // The meaning of each rule of document 01 stands in specs/, over these.
+#![tactic(auto)]
+
 ghost use Rattle.std.specs.Prelude.{◌≡◌};
 ghost use Rattle.model.specs.Answers.{code_of, number_of};
 

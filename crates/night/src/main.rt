@@ -1,5 +1,7 @@
 // Document 01's worked night, items 1 to 12, by the public calls: for each call a line with its item, the call, its code and number,
 // and what the item tells besides.
+#![tactic(auto)]
+
 mod calls;
 
 use changes::settling::Changed;

@@ -1,4 +1,6 @@
 // What the programs print: numbers with a text before each.
+#![tactic(auto)]
+
 ghost use Rattle.std.specs.Prelude.{pos, ◌<ℤ◌};
 
 use libc::STDOUT_FILENO;

@@ -1,5 +1,7 @@
 // Reads of stores that are laid by hand. A line for each call: the store's number, the call with its time or tick and its page, the
 // code, the number, and the buffer's words or standing's figures. EXPECTED.md says what each store is, and why document 01 answers so.
+#![tactic(auto)]
+
 mod bounds;
 mod calls;
 mod clocks;

@@ -1,4 +1,6 @@
 // The reads of the store, standing and known. None requires anything: each refuses what it can't answer.
+#![tactic(auto)]
+
 ghost use Rattle.std.specs.Prelude.{◌≡◌, true, List, ℕ, ◌≤◌, length, take, ltb, pos, ◌-ℤ◌};
 ghost use Rattle.model.specs.declared.Answer.TheVariants.{Shape, Ahead, NoSnapshot};
 ghost use Rattle.model.specs.Lists.{pick, rising_from};

@@ -1,4 +1,6 @@
 // What C and Rust call: the whole store is one struct behind a reference, and no table is copied. A coordinator is one array of words.
+#![tactic(auto)]
+
 pub mod changing;
 pub mod coordinating;
 pub mod exchanging;

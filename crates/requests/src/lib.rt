@@ -1,4 +1,6 @@
 // The record of kind 4, by which a repository asks a coordinator for a message.
+#![tactic(auto)]
+
 ghost use Rattle.std.specs.Prelude.{◌≡◌, ◌≤◌, length};
 ghost use Rattle.model.specs.Bytes.{write_at};
 ghost use Rattle.model.specs.Exchange.{request_bytes, request_in};

@@ -1,4 +1,6 @@
 // A store from nothing, and a store from a journal. Neither requires anything.
+#![tactic(auto)]
+
 mod commit;
 mod empty;
 mod flush;

@@ -1,4 +1,6 @@
 // The Shape and Twice rules for the lists of a change. The calls judge their arguments by them, and the journal's reader its records.
+#![tactic(auto)]
+
 ghost use Rattle.std.specs.Prelude.{◌≡◌, true, false, ℕ, ◌≤◌, ltb, leb, length, get_or};
 ghost use Rattle.model.specs.Lists.{both, all_b, twice_b, rising_from};
 ghost use Rattle.model.specs.Judgement.{objects_shaped, stamps_shaped};

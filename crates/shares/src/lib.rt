@@ -1,4 +1,6 @@
 // A page's share of the tables: the numbers of its past rows and of its entries, found once, so that no other rows are looked at again.
+#![tactic(auto)]
+
 pub mod look;
 pub mod many;
 pub mod quiet;

@@ -1,4 +1,6 @@
 // The store's tables, lent by the caller: rows of words, read and written as the model's rows.
+#![tactic(auto)]
+
 pub mod dropping;
 pub mod lookups;
 

@@ -1,4 +1,6 @@
 // What the two commands share: the words that they are started with, lines of input, answers, and the status for the script.
+#![tactic(auto)]
+
 pub mod hex;
 pub mod input;
 pub mod say;

@@ -1,4 +1,6 @@
 // A page looked at through the tables: sixteen words over which first the past values and then the pending entries are laid.
+#![tactic(auto)]
+
 ghost use Rattle.std.specs.Prelude.{◌≡◌, false, List, map, ℕ, ◌≤◌, ◌<◌, ◌+◌, length, take, drop, get_or, set, leb};
 ghost use Rattle.model.specs.Lists.{either, pick, twice_b};
 ghost use Rattle.model.specs.Store.{page16, object_at, page_of, slot_of, pending_seen, past_seen};
