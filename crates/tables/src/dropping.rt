@@ -9,7 +9,7 @@ use crate::{PastTable, Snapshots};
 use model::Past;
 
 // Sixteen rows, the first n of them kept.
-#[derive(Drop)]
+#[derive(Clone, Copy)]
 pub struct Front {
     pub rows: [Past; 16],
     pub n: usize,
