@@ -12,3 +12,4 @@ returns c = record {
   snapshot_words = search rules;
   copy_rows = copies_length _ _ (search rules);
   copied_words = search rules;
+}

@@ -21,4 +21,4 @@ loop-i-preserved c =
     let j = c.judged-stay in
     let d = c.drop_some-at in
     let f = test a.scope a.horizon a.known a.snapshots.now a.marks.now in
-    (omega (arith, m.ensures.1), turned f (pasts a.t.now) (pasts v.t) v.at v.i v.invariant.1 m.result j.result (pasts d.new.0) d.result j.ensures d.ensures)
+    (omega (arith, m.ensures.1), turned f (pasts a.t.now) (pasts v.t) v.at v.i v.invariant.1 m.result j.result (pasts d.new.t) d.result j.ensures d.ensures)

@@ -19,4 +19,4 @@ returns c = let a = c.args in
     let k = c.compacted-front in
     let p = c.pack in
     moved a.at a.from a.n a.stay (pasts a.t.now)
-    u.result k.result.rows (pasts p.new.0) k.result.n c.requires.0 u.ensures k.ensures p.ensures
+    u.result k.result.rows (pasts p.new.t) k.result.n c.requires.0 u.ensures k.ensures p.ensures

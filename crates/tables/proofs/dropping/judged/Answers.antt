@@ -15,23 +15,20 @@ use Rattle.tables.proofs.Cases.{clash}
 use Rattle.tables.proofs.Compacts.{no_past, copied}
 use Rattle.tables.proofs.dropping.judged.Invariants.{test}
 use Rattle.tables.proofs.dropping.judged.Goals as goal
-use Rattle.tables.proofs.dropping.judged.Goals.{Joined-in_scope}
-
--- the last known snapshot before an end
-abbrev last : tie.Joined1 invariant-loop decreases-loop → ℕ → ℕ
-last c u = let a = c.before.before.before.before.before.before.args in last_before (take a.known a.snapshots.now) u
+use Rattle.tables.proofs.dropping.judged.Goals.{Joined-in_scope, then-in_scope+then-q-until, then-in_scope+else-q-until, else-in_scope}
 
 -- the search that is kept is its end's, and the row's where the row is in scope, whether it was made for this row or an earlier one
 searched : (c : Joined-in_scope)
-    → (c.if-in_scope.s ≡ last c c.if-in_scope.until) × (c.in_scope.result ≡ true → c.if-in_scope.s ≡ last c c.past_at-q.result.until)
+    → (c.if-in_scope.s ≡ last_before (take c.args.known c.args.snapshots.now) c.if-in_scope.until)
+    × (c.in_scope.result ≡ true → c.if-in_scope.s ≡ last_before (take c.args.known c.args.snapshots.now) c.past_at-q.result.until)
 searched c =
     let v = c.loop-i in
-    ⊎_elim
-    (λ w. let e = w.5 ∙ w.3.ensures in (e ∙ ap (last c) (sym w.4), λ _. e))
-    (⊎_elim
-    (λ w. let e = w.4 ∙ v.invariant.3 in (e ∙ ap (last c) (sym w.3), λ _. e ∙ ap (last c) (sym w.2.left)))
-    (λ w. (w.2 ∙ v.invariant.3 ∙ ap (last c) (sym w.1), λ t. clash (sym t ∙ w.0.left))))
-    c.if-in_scope.branch
+    let last = λ (u : ℕ). last_before (take c.args.known c.args.snapshots.now) u in
+    elim c.if-in_scope.branch [
+      then-in_scope+then-q-until w ↦ let e = w.s-is ∙ w.last_before-s.ensures in (e ∙ ap last (sym w.until-is), λ _. e)
+    | then-in_scope+else-q-until w ↦ let e = w.s-is ∙ v.invariant.3 in (e ∙ ap last (sym w.until-is), λ _. e ∙ ap last (sym w.if-q-until.false))
+    | else-in_scope w ↦ (w.s-is ∙ v.invariant.3 ∙ ap last (sym w.until-is), λ t. clash (sym t ∙ w.if-in_scope.false))
+    ]
 
 pub loop-i-preserved : goal.loop-i-preserved
 loop-i-preserved c =

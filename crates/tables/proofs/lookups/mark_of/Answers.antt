@@ -9,7 +9,7 @@ use Rattle.tables.specs.Rows.{copy_heads, copy_head_at}
 use Rattle.tables.proofs.Backward.{Turn}
 use Rattle.tables.proofs.Marks.{mark_from, mark_start, mark_end, mark_new, mark_old, mark_trimmed, trimmed_page}
 use Rattle.tables.proofs.lookups.mark_of.Goals as goal
-use Rattle.tables.proofs.lookups.mark_of.Goals.{In-loop-i}
+use Rattle.tables.proofs.lookups.mark_of.Goals.{In-loop-i, else-best-c, then-best-c}
 
 pub loop-i-init : goal.loop-i-init
 loop-i-init c =
@@ -34,10 +34,7 @@ loop-i-preserved c =
     let p = ap (λ x. x.page) r ∙ v.invariant.2 c.loop-i-test.true in
     let e = c.trimmed_copies-i-in-loop-i.ensures.0 in
     let m : (words : List ℕ) → c.if-best-c.best ≡ mark_from hs a.n (v.i - 1) words a.page =
-    ⊎_elim
-    (λ w. rw w.1 (mark_new (turn (goal.at.loop-i-preserved c).In-loop-i) r a.page v.invariant.1 p w.0.taken))
-    (λ w. rw w.1 (mark_old (turn (goal.at.loop-i-preserved c).In-loop-i) r a.page v.invariant.1 p w.0.left))
-    c.if-best-c.branch in (
+    (elim c.if-best-c.branch [ then-best-c w ↦ rw w.best-is (mark_new (turn (goal.at.loop-i-preserved c).In-loop-i) r a.page v.invariant.1 p w.if-best-c.true) | else-best-c w ↦ rw w.best-is (mark_old (turn (goal.at.loop-i-preserved c).In-loop-i) r a.page v.invariant.1 p w.if-best-c.false) ]) in (
       search rules,
       mark_trimmed hs (v.i - 1) a.page e a.n (search rules) (search rules) m,
       trimmed_page hs (v.i - 1) a.page e,

@@ -11,7 +11,7 @@ use Rattle.tables.proofs.Marks.{mark_from, mark_start, mark_end, mark_new, mark_
 use Rattle.tables.proofs.lookups.mark_of.Given as goal
 
 abbrev pub invariant-loop-i : goal.invariant-loop-i
-invariant-loop-i l = (l.i ≤ l.n) × ((words : List ℕ) → l.best ≡ mark_from (copy_heads l.t) l.n l.i words l.page) × (0 < l.i → (copy_head_at (copy_heads l.t) (l.i - 1)).page ≡ l.page)
+invariant-loop-i l =     (l.i ≤ l.n) × ((words : List ℕ) → l.best ≡ mark_from (copy_heads l.t) l.n l.i words l.page) × (0 < l.i → (copy_head_at (copy_heads l.t) (l.i - 1)).page ≡ l.page)
 
 abbrev pub decreases-loop-i : goal.decreases-loop-i
 decreases-loop-i l = l.i

@@ -17,7 +17,7 @@ turn c = record { left = search rules; inside = search rules; rows = search rule
 
 -- the copy's page is one of the 32
 below : (c : After-copy_at-c) → c.copy_at-c.result.page < 32
-below c = page_in (turn ((goal.at.? c).In-loop-i)) c.copy_at-c.ensures 32 c.requires.3
+below c = page_in (turn c.before) c.copy_at-c.ensures 32 c.requires.3
 
 pub offset_bounds-marks-page : goal.offset_bounds-marks-page
 offset_bounds-marks-page c = omega (arith, below (goal.at.offset_bounds-marks-page c).After-copy_at-c)
