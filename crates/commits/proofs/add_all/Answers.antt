@@ -1,0 +1,15 @@
+-- `add_all` leaves the store after the commit: the entries written with those to come are all.
+use Prim.Native.Nat.{◌-◌, ◌≤◌}
+use mathlib.Core.Path.{◌≡◌, ap, ◌∙◌}
+use native.Mathlib.Omega.{arith}
+use lib.ListN.{length, length-set}
+use borrow.Author.Rules.{rules}
+use Rattle.tables.specs.Rows.{pendings}
+use Rattle.commits.proofs.AllNew.{Adding, adding_next, added_all}
+use Rattle.commits.proofs.add_all.Goals as goal
+
+pub returns : goal.returns
+returns c =
+    let v = c.loop-k in
+    let a = c.args in
+    added_all a.t a.objects.now a.values.now a.pending.now v.pending a.h v.k v.invariant.2 c.requires.0.1 c.requires.1.2 c.loop-k-test.false (omega arith)
