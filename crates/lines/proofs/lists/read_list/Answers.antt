@@ -1,0 +1,24 @@
+-- `lists::read_list` meets its contract: what is stored, with what is left to read, is the whole list.
+use Rattle.lines.proofs.Storing.{Stored, stored_none, list_end, list_bad, list_turn}
+use Rattle.lines.proofs.Taking.{bytes_of, word_there}
+use Rattle.lines.specs.Lines.{items}
+use Rattle.lines.specs.Words.{words_from}
+use lib.ListN.{length}
+use native.Mathlib.Omega.{arith}
+use mathlib.Core.Path.{sym, ◌∙◌}
+use Prim.Native.Nat.{◌≤◌, ◌-◌, ◌+◌}
+use borrow.Author.Rules.{rules}
+use Rattle.lines.proofs.lists.read_list.Goals as goal
+
+pub loop-row-preserved : goal.loop-row-preserved
+loop-row-preserved c = let v = c.loop-row in
+    let a = c.args in
+    let n = c.next_word-span.ensures in
+    let s = c.next_word-span.result in
+    let e = c.keep-count.ensures in (
+      n.within,
+      list_turn a.row (words_from a.text.now v.at) v.invariant.1 (s.from + 1) (bytes_of a.text.now s) (words_from a.text.now s.to)
+          (n.some (word_there a.text.now v.at s n c.if-from-to.false))
+          (sym c.item_at-item.ensures ∙ c.in-Pair.is)
+          _ _ _ e.0 e.1.0 e.1.1,
+    )
