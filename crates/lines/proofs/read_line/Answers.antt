@@ -17,7 +17,5 @@ slice_bounds-text-end c = let s = c.args.line.now in
 
 pub returns : goal.returns
 returns c =
-    let s : tie.Start = search ((goal.at.returns c).After-read_text) in
-    let r : tie.After-run-of = search ((goal.at.returns c).After-read_text) in
-    let e = line_read s.args.line.now r.run_of.result r.run_of.ensures c.read_text.ensures in
-    record { reading = e; heard = subst (Heard s.args.line.now (parsed s.args.line.now).word) (sym e.answered) (line_heard s.args.line.now) }
+    let e = line_read c.args.line.now c.run_of-end.result c.run_of-end.ensures c.read_text.ensures in
+    record { reading = e; heard = subst (Heard c.args.line.now (parsed c.args.line.now).word) (sym e.answered) (line_heard c.args.line.now) }

@@ -20,5 +20,5 @@ loop-row-preserved c = let v = c.loop-row in
       list_turn a.row (words_from a.text.now v.at) v.invariant.1 (s.from + 1) (bytes_of a.text.now s) (words_from a.text.now s.to)
           (n.some (word_there a.text.now v.at s n c.if-from-to.false))
           (sym c.item_at-item.ensures ∙ c.in-Pair.is)
-          _ _ _ e.0 e.1.0 e.1.1,
+          _ _ _ e.value e.firsts_after e.seconds_after,
     )
