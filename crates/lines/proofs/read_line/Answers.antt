@@ -7,7 +7,6 @@ use Rattle.lines.specs.declared.words.Class.TheVariants.{Text}
 use Rattle.lines.specs.Words.{of_class}
 use lib.Seq.{length-take-le}
 use mathlib.Core.Path.{sym, subst}
-use borrow.Author.Rules.{rules}
 use Rattle.lines.proofs.read_line.Goals as goal
 
 pub slice_bounds-text-end : goal.slice_bounds-text-end

@@ -1,7 +1,6 @@
 -- `hex::read_hex` meets its contract: the bytes so far, with those of the digits that are left, are all of them.
-use Rattle.lines.proofs.Hexes.{Pairing, pair_start, pair_turn, pair_short, pair_full, decoded}
-use Prim.Native.Nat.{◌≤◌, ◌<◌, ◌+◌, ◌*◌, ◌-◌}
-use mathlib.Core.Path.{◌≡◌}
+use Rattle.lines.proofs.Hexes.{pair_start, pair_turn, pair_short, decoded}
+use Prim.Native.Nat.{◌<◌, ◌+◌, ◌*◌}
 use native.Mathlib.Omega.{arith}
 use lib.ListN.{length, length-set}
 use borrow.Author.Rules.{rules}

@@ -1,10 +1,8 @@
 -- `hex::read_hex` meets its contract: the bytes so far, with those of the digits that are left, are all of them.
-use Rattle.lines.proofs.Hexes.{Pairing, pair_start, pair_turn, pair_short, pair_full, decoded}
-use Prim.Native.Nat.{◌≤◌, ◌<◌, ◌+◌, ◌*◌, ◌-◌}
+use Rattle.lines.proofs.Hexes.{Pairing}
+use Prim.Native.Nat.{◌≤◌, ◌*◌, ◌-◌}
 use mathlib.Core.Path.{◌≡◌}
-use native.Mathlib.Omega.{arith}
-use lib.ListN.{length, length-set}
-use borrow.Author.Rules.{rules}
+use lib.ListN.{length}
 use Rattle.lines.proofs.hex.read_hex.Given as goal
 
 abbrev pub invariant-loop-i : goal.invariant-loop-i

@@ -1,13 +1,9 @@
 -- `lists::read_list` meets its contract: what is stored, with what is left to read, is the whole list.
-use Rattle.lines.proofs.Storing.{Stored, stored_none, list_end, list_bad, list_turn}
-use Rattle.lines.proofs.Taking.{bytes_of, word_there}
+use Rattle.lines.proofs.Storing.{Stored}
 use Rattle.lines.specs.Lines.{items}
 use Rattle.lines.specs.Words.{words_from}
 use lib.ListN.{length}
-use native.Mathlib.Omega.{arith}
-use mathlib.Core.Path.{sym, ◌∙◌}
-use Prim.Native.Nat.{◌≤◌, ◌-◌, ◌+◌}
-use borrow.Author.Rules.{rules}
+use Prim.Native.Nat.{◌≤◌, ◌-◌}
 use Rattle.lines.proofs.lists.read_list.Given as goal
 
 abbrev pub invariant-loop-row : goal.invariant-loop-row

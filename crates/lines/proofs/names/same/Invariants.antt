@@ -1,11 +1,8 @@
 -- `names::same` meets its contract: equal so far, with what is left to compare, is the whole comparison.
-use Rattle.lines.proofs.Same.{same_lengths, same_turn, same_not, same_end}
 use Rattle.lines.specs.Names.{same_b}
 use lib.ListN.{length, drop}
-use native.Mathlib.Omega.{arith}
-use mathlib.Core.Path.{◌≡◌, refl, sym, ◌∙◌}
+use mathlib.Core.Path.{◌≡◌}
 use Prim.Native.Nat.{◌≤◌, ◌-◌}
-use borrow.Author.Rules.{rules}
 use Rattle.lines.proofs.names.same.Given as goal
 
 abbrev pub invariant-loop-i : goal.invariant-loop-i

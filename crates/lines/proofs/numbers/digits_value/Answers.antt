@@ -1,11 +1,6 @@
 -- `numbers::digits_value` meets its contract: the number so far, with the digits that are left, is the whole; it never falls.
-use Rattle.lines.proofs.Digits.{digit_turn, digit_large, digit_end}
-use Rattle.lines.specs.Numbers.{decimal}
-use lib.ListN.{length, drop}
+use Rattle.lines.proofs.Digits.{digit_large}
 use native.Mathlib.Omega.{arith}
-use mathlib.Core.Path.{◌≡◌, refl}
-use Prim.Native.Nat.{◌≤◌, ◌<◌, ◌-◌, ◌^◌}
-use borrow.Author.Rules.{rules}
 use Rattle.lines.proofs.numbers.digits_value.Goals as goal
 
 pub returns-then-x-n : goal.returns-then-x-n

@@ -1,14 +1,11 @@
 -- `numbers::write_at` meets its contract: the key before the `=`, and the value behind it.
 use Rattle.lines.proofs.Runs.{run_all}
 use Rattle.lines.specs.declared.words.Class.TheVariants.{Left}
-use Rattle.lines.specs.Numbers.{split_at}
 use Rattle.lines.specs.Words.{of_class}
 use lib.Seq.{length-take-le}
 use lib.ListN.{length}
-use mathlib.Core.Path.{ap, sym}
-use native.Mathlib.Omega.{arith}
-use Prim.Native.Nat.{ℕ, ◌≤◌}
-use borrow.Author.Rules.{rules}
+use mathlib.Core.Path.{sym}
+use Prim.Native.Nat.{◌≤◌}
 use Rattle.lines.proofs.numbers.write_at.Goals as goal
 use Rattle.lines.proofs.numbers.write_at.Goals.{After-run_of-key}
 

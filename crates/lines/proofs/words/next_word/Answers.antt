@@ -1,5 +1,4 @@
 -- `words::next_word` meets its contract: the runs of blanks and of other bytes are those of the whole text from where they begin.
-use borrow.Author.Rules.{rules}
 use Prim.Native.Nat.{◌+◌, ◌≤◌}
 use mathlib.Core.Path.{◌≡◌, ap, ◌∙◌}
 use native.Mathlib.Omega.{arith}

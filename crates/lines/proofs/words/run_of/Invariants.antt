@@ -1,12 +1,8 @@
 -- `words::run_of` meets its contract: the bytes passed, with the run that is left, are the whole run.
-use Rattle.lines.proofs.Runs.{run_turn, run_stop, run_end}
 use Rattle.lines.specs.Words.{leading, of_class}
 use lib.ListN.{length, drop}
-use borrow.Author.Tests.{not-true, not-false}
-use native.Mathlib.Omega.{arith}
-use mathlib.Core.Path.{◌≡◌, sym, ◌∙◌}
+use mathlib.Core.Path.{◌≡◌}
 use Prim.Native.Nat.{◌≤◌, ◌-◌, ◌+◌}
-use borrow.Author.Rules.{rules}
 use Rattle.lines.proofs.words.run_of.Given as goal
 
 abbrev pub invariant-loop-i : goal.invariant-loop-i
