@@ -1,11 +1,8 @@
 -- `hex::digits` meets its contract: after i turns the digits of the first i bytes stand behind what was there.
 use Prim.Native.Nat.{◌≤◌, ◌+◌, ◌*◌, ◌-◌}
-use native.Mathlib.Omega.{arith}
 use lib.ListN.{length, take}
-use borrow.Author.Rules.{rules}
 use Rattle.answers.specs.Parts.{Put}
 use Rattle.answers.specs.Hex.{hex_of}
-use Rattle.answers.proofs.Puts.{put_none, hex_next, hex_end}
 use Rattle.answers.proofs.hex.digits.Given as goal
 
 abbrev pub invariant-loop-i : goal.invariant-loop-i

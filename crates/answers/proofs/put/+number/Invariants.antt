@@ -1,4 +1,4 @@
--- proofs/put/+number/Invariants.antt
+-- `put::number` calls itself with a tenth, so the measure is the number.
 use Rattle.answers.proofs.put.+number.Given as goal
 
 abbrev pub decreases-number : goal.decreases-number

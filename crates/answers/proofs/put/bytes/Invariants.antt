@@ -1,10 +1,7 @@
 -- `put::bytes` meets its contract: after i turns the first i bytes stand behind what was there.
 use Prim.Native.Nat.{◌≤◌, ◌+◌, ◌-◌}
-use native.Mathlib.Omega.{arith}
 use lib.ListN.{length, take}
-use borrow.Author.Rules.{rules}
 use Rattle.answers.specs.Parts.{Put}
-use Rattle.answers.proofs.Puts.{bytes_none, bytes_next, bytes_end}
 use Rattle.answers.proofs.put.bytes.Given as goal
 
 abbrev pub invariant-loop-i : goal.invariant-loop-i

@@ -1,11 +1,8 @@
 -- `put::writes` meets its contract: after i turns the first i writes stand behind what was there, each in at most 42 bytes.
 use Prim.Native.Nat.{◌≤◌, ◌+◌, ◌*◌, ◌-◌}
-use native.Mathlib.Omega.{arith}
-use borrow.Author.Rules.{rules}
 use lib.ListN.{length, take}
 use Rattle.answers.specs.Parts.{Put}
 use Rattle.answers.specs.Records.{writes_text}
-use Rattle.answers.proofs.Puts.{put_none, writes_next, writes_end}
 use Rattle.answers.proofs.put.writes.Given as goal
 
 abbrev pub invariant-loop-i : goal.invariant-loop-i
