@@ -12,4 +12,4 @@ pub returns : goal.returns
 returns c =
     let v = c.loop-k in
     let a = c.args in
-    added_all a.t a.objects.now a.values.now a.pending.now v.pending a.h v.k v.invariant.2 c.requires.0.1 c.requires.1.2 c.loop-k-test.false (omega arith)
+    added_all a.t a.objects.now a.values.now a.pending.now v.pending a.h v.k v.invariant.2 c.requires.pending_len.1 c.requires.objects_len_bound.2 c.loop-k-test.false (omega arith)

@@ -8,7 +8,7 @@ use Rattle.commits.proofs.add_live.Goals.{Then-lives}
 room : (c : Then-lives) → c.args.h.past < 256
 room c =
     let a = c.args in
-    add_room a.past.now a.snapshots.now a.copies.now a.h a.q c.lives.ensures c.requires.1.0 c.requires.0.2 c.if-lives.true c.requires.1.1
+    add_room a.past.now a.snapshots.now a.copies.now a.h a.q c.lives.ensures c.requires.past_len.0 c.requires.snapshots_len.2 c.if-lives.true c.requires.past_len.1
 
 pub put_past-requires : goal.put_past-requires
 put_past-requires c = room (goal.at.put_past-requires c).Then-lives
@@ -16,4 +16,4 @@ put_past-requires c = room (goal.at.put_past-requires c).Then-lives
 pub returns-then-lives : goal.returns-then-lives
 returns-then-lives c =
     let a = c.args in
-    added_yes a.past.now a.snapshots.now a.copies.now a.h a.q c.lives.ensures c.requires.1.0 c.requires.0.2 c.if-lives.true (room (goal.at.returns-then-lives c).Then-lives) c.put_past.ensures
+    added_yes a.past.now a.snapshots.now a.copies.now a.h a.q c.lives.ensures c.requires.past_len.0 c.requires.snapshots_len.2 c.if-lives.true (room (goal.at.returns-then-lives c).Then-lives) c.put_past.ensures

@@ -10,7 +10,7 @@ use Rattle.commits.proofs.Writing.{Writing, object_low, writing_start, writing_r
 use Rattle.commits.proofs.apply_commit.Given as goal
 
 abbrev pub invariant-loop-k : goal.invariant-loop-k
-invariant-loop-k l = (l.k ≤ length l.objects) × Writing l.snapshots l.copies l.t l.objects l.values l.initial.pending l.initial.past l.initial.after l.pending l.past l.index l.after l.k
+invariant-loop-k l =     (l.k ≤ length l.objects) × Writing l.snapshots l.copies l.t l.objects l.values l.initial.pending l.initial.past l.initial.after l.pending l.past l.index l.after l.k
 
 abbrev pub decreases-loop-k : goal.decreases-loop-k
 decreases-loop-k l = length l.objects - l.k

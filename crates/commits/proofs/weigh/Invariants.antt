@@ -15,7 +15,7 @@ use Rattle.commits.proofs.Writing.{object_low, ready_one}
 use Rattle.commits.proofs.weigh.Given as goal
 
 abbrev pub invariant-loop-k : goal.invariant-loop-k
-invariant-loop-k l = (l.k ≤ length l.objects) × (l.entries ≤ l.k) × (l.rows ≤ l.k)
+invariant-loop-k l =     (l.k ≤ length l.objects) × (l.entries ≤ l.k) × (l.rows ≤ l.k)
     × Counts (new_in (take l.h.pending (pendings l.pending))) l.objects l.k l.entries
     × ((copied : List ℕ) → Counts (displaces_in (live_by l.snapshots l.copies copied l.h) l.t (take l.h.pending (pendings l.pending))) l.objects l.k l.rows)
 

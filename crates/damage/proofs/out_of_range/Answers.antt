@@ -17,15 +17,15 @@ use Rattle.tables.specs.Contents.{contents, Counted}
 use Rattle.tables.proofs.Searches.{both_left}
 use Rattle.damage.proofs.Laws.{hit, pass, counted, tested, damaged_over, damaged_is, sifted_hit}
 use Rattle.damage.proofs.out_of_range.Goals as goal
-use Rattle.damage.proofs.out_of_range.Goals.{Else-copies_out, Else-overfull, Else-pending_out}
+use Rattle.damage.proofs.out_of_range.Goals.{Else-copies_out, Else-overfull, Else-pending_out, Start}
 
 -- what the tables hold, and the tests that are left once the counts are within their limits
-abbrev held : tie.Start → List ℕ → List ℕ → List ℕ → Store
+abbrev held : Start → List ℕ → List ℕ → List ℕ → Store
 held c values stamps copied =
     let a = c.args in
     contents values stamps a.pending.now a.past.now a.snapshots.now a.copies.now copied a.h
 
-abbrev left : tie.Start → List ℕ → Bool
+abbrev left : Start → List ℕ → Bool
 left c copied = let a = c.args in tested a.pending.now a.past.now a.snapshots.now a.copies.now copied a.h
 
 -- the counts are within their limits

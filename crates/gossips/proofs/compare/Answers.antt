@@ -21,10 +21,7 @@ loop-j-init c = let a = c.args in
     let k = c.count_known-j in
     (omega arith, ap (compared (told a.upto a.stamps.now 0)) (heard_starts a.prev a.upto (take a.known a.snapshots.now) k.result k.ensures.0))
 
-abbrev start : tie.At-loop invariant-loop decreases-loop → tie.Start invariant-loop decreases-loop
-start c = c.before.before.before.before.before
-
 -- from a snapshot beyond the bound on all are
 pub returns-then-upto-y : goal.returns-then-upto-y
-returns-then-upto-y c = let a = (start (goal.at.returns-then-upto-y c).At-loop-j).args in
-    c.against_none.ensures ∙ heard_ends (told a.upto a.stamps.now c.loop-j.i) (rest_none a.upto 0 (take a.known a.snapshots.now) c.loop-j.j c.loop-j-test.true (start (goal.at.returns-then-upto-y c).At-loop-j).requires.3 c.if-upto-y.true) c.loop-j.invariant.1
+returns-then-upto-y c = let a = c.args in
+    c.against_none.ensures ∙ heard_ends (told a.upto a.stamps.now c.loop-j.i) (rest_none a.upto 0 (take a.known a.snapshots.now) c.loop-j.j c.loop-j-test.true c.requires.3 c.if-upto-y.true) c.loop-j.invariant.1

@@ -18,7 +18,7 @@ use Rattle.gossips.proofs.Saying.{against_said, say_gap, say_conflict, say_idle,
 use Rattle.gossips.proofs.judge_gossip.Goals as goal
 use Rattle.gossips.proofs.judge_gossip.Goals.{After-compare, After-count_known, Start}
 
-abbrev store : tie.Start → List ℕ → List ℕ → List (List ℕ) → List (List ℕ) → List (List ℕ) → List ℕ → Store
+abbrev store : Start → List ℕ → List ℕ → List (List ℕ) → List (List ℕ) → List (List ℕ) → List ℕ → Store
 store c d e p q k w = contents d e p q c.args.snapshots.now k w c.args.h
 
 -- the comparison is the store's, whatever the other tables hold

@@ -20,7 +20,7 @@ use Rattle.views.proofs.Entries.{word_shown, word_none}
 use Rattle.views.proofs.lay_entries.Given as goal
 
 abbrev pub invariant-loop-k : goal.invariant-loop-k
-invariant-loop-k l = (l.k ≤ 16) × (length l.out ≡ 16) × (l.out ≡ take l.k (pending_over l.v (take l.n (pendings l.t)) l.initial.out) ++ drop l.k l.initial.out)
+invariant-loop-k l =     (l.k ≤ 16) × (length l.out ≡ 16) × (l.out ≡ take l.k (pending_over l.v (take l.n (pendings l.t)) l.initial.out) ++ drop l.k l.initial.out)
 
 abbrev pub decreases-loop-k : goal.decreases-loop-k
 decreases-loop-k l = 16 - l.k

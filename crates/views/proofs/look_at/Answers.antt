@@ -18,30 +18,27 @@ use Rattle.views.proofs.Looks.{beneath, beneath_now, beneath_past, look_page}
 use Rattle.views.proofs.look_at.Goals as goal
 use Rattle.views.proofs.look_at.Goals.{Joined-not-v, else-not-v, then-not-v}
 
-abbrev start : tie.Joined1 → tie.Start
-start c = c.before.before.before.before.before.before.before.before.before
-
-abbrev asked : tie.Joined1 → View
-asked c = let a = (start c).args in record { page = a.page; current = a.current; stamp = a.stamp; ages = false }
+abbrev asked : Joined-not-v → View
+asked c = let a = c.args in record { page = a.page; current = a.current; stamp = a.stamp; ages = false }
 
 -- what the pending entries are laid over
 under : (c : Joined-not-v) (dated : List ℕ)
-    → c.if-not-v.out ≡ beneath (start c).args.disk.now dated (take (start c).args.h.past (pasts (start c).args.past.now)) (asked c)
+    → c.if-not-v.out ≡ beneath c.args.disk.now dated (take c.args.h.past (pasts c.args.past.now)) (asked c)
 under c dated =
-    let a = (start c).args in
-    let p = (start c).requires.0 in
+    let a = c.args in
+    let p = c.requires.lookable in
     let qs = take a.h.past (pasts a.past.now) in
     let d = c.sixteen.ensures ∙ page_cut a.disk.now (16 * a.page) (omega (arith, p.value_words, p.in_range)) in
     (elim c.if-not-v.branch [ then-not-v w ↦ w.5 ∙ w.2.ensures ∙ beneath_past a.disk.now dated qs (asked c) d (not-true _ w.if-not-v.true) | else-not-v w ↦ w.1 ∙ beneath_now a.disk.now dated qs (asked c) d (not-false _ w.if-not-v.false) ])
 
 pub returns-then-h-gt0 : goal.returns-then-h-gt0
 returns-then-h-gt0 c =
-    let a = (start (goal.at.returns-then-h-gt0 c).Joined-not-v).args in
+    let a = c.args in
     c.lay_entries.ensures
-    ∙ look_page a.disk.now dated a.pending.now a.past.now a.h (asked (goal.at.returns-then-h-gt0 c).Joined-not-v) (start (goal.at.returns-then-h-gt0 c).Joined-not-v).requires.0 (under (goal.at.returns-then-h-gt0 c).Joined-not-v dated) snapshots copies copied
+    ∙ look_page a.disk.now dated a.pending.now a.past.now a.h (asked (goal.at.returns-then-h-gt0 c).Joined-not-v) c.requires.lookable (under (goal.at.returns-then-h-gt0 c).Joined-not-v dated) snapshots copies copied
 
 pub returns-else-h-gt0 : goal.returns-else-h-gt0
 returns-else-h-gt0 c =
-    let a = (start (goal.at.returns-else-h-gt0 c).Joined-not-v).args in
+    let a = c.args in
     lay_none (shows_b (asked (goal.at.returns-else-h-gt0 c).Joined-not-v)) (λ e. slot_of e.object) (λ e. part_of false (pending_seen e)) a.h.pending (pendings a.pending.now) c.if-not-v.out c.if-h-gt0.false
-    ∙ look_page a.disk.now dated a.pending.now a.past.now a.h (asked (goal.at.returns-else-h-gt0 c).Joined-not-v) (start (goal.at.returns-else-h-gt0 c).Joined-not-v).requires.0 (under (goal.at.returns-else-h-gt0 c).Joined-not-v dated) snapshots copies copied
+    ∙ look_page a.disk.now dated a.pending.now a.past.now a.h (asked (goal.at.returns-else-h-gt0 c).Joined-not-v) c.requires.lookable (under (goal.at.returns-else-h-gt0 c).Joined-not-v dated) snapshots copies copied
