@@ -23,10 +23,10 @@ store c d e p q k w = contents d e p q c.args.snapshots.now k w c.args.h
 
 -- the comparison is the store's, whatever the other tables hold
 said : (c : After-compare) (d e : List ℕ) (p q k : List (List ℕ)) (w : List ℕ)
-    → compared_as (against (store c.before.before.before.before.before d e p q k w) c.args.prev c.args.curr c.args.stamps.now) ≡ c.compare.result
+    → compared_as (against (store c.before.before.before.before.before.before d e p q k w) c.args.prev c.args.curr c.args.stamps.now) ≡ c.compare.result
 said c d e p q k w =
     let t = up_to_take 0 c.args.h.snapshots c.args.snapshots.now (omega arith) in
-    against_said (store c.before.before.before.before.before d e p q k w) c.args.prev c.args.curr c.args.stamps.now c.args.h.snapshots c.args.snapshots.now c.smaller-upto.ensures t c.compare.ensures
+    against_said (store c.before.before.before.before.before.before d e p q k w) c.args.prev c.args.curr c.args.stamps.now c.args.h.snapshots c.args.snapshots.now c.smaller-upto.ensures t c.compare.ensures
 
 -- the stamps ascend from prev, and so from 0
 rises : (c : Start) → rising_from 0 c.args.stamps.now ≡ true
