@@ -22,6 +22,15 @@ row : (c : After-row_of-row)
     → c.row_of-row.result ≡ row_of (find_pending (get_or c.args.objects.now c.loop-k.k 0) (take c.loop-k.after.pending (pendings c.loop-k.pending)))
 row c = let v = c.loop-k in c.row_of-row.ensures (take v.after.pending (pendings v.pending)) v.invariant.1.indexed
 
+pub write_one-after-requires-clause-past_len : goal.write_one-after-requires-clause-past_len
+write_one-after-requires-clause-past_len c =
+    let a = c.args in
+    let w = c.loop-k.invariant.1 in
+    (
+      w.past_rows,
+      writing_room c.requires.ready a.past.now a.t a.values.now c.requires.past_len.1 w c.loop-k-test.true c.requires.past_len.2,
+    )
+
 pub bounds-index-at : goal.bounds-index-at
 bounds-index-at c = low (goal.at.bounds-index-at c).In-loop-k
 
@@ -38,3 +47,8 @@ loop-k-preserved c =
     let w = c.loop-k.invariant.1 in
     let l = c.loop-k-test.true in
     (omega arith, writing_over c.requires.ready a.past.now a.t a.values.now c.requires.past_len.1 w l (row (goal.at.loop-k-preserved c).After-row_of-row) c.write_one-after.ensures c.if-row-ge128.false)
+
+pub returns-clause-applied : goal.returns-clause-applied
+returns-clause-applied c =
+    let a = c.args in
+    writing_end c.requires.ready a.past.now a.t a.values.now c.requires.past_len.1 c.loop-k.invariant.1 c.loop-k-test.false

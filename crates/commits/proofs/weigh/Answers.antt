@@ -13,7 +13,7 @@ use Rattle.commits.proofs.Counting.{Counts, counts_one, counts_none, counts_all}
 use Rattle.commits.proofs.OneWrite.{old_at, new_none, displaces_none}
 use Rattle.commits.proofs.Writing.{object_low, ready_one}
 use Rattle.commits.proofs.weigh.Goals as goal
-use Rattle.commits.proofs.weigh.Goals.{After-row_of-row, Start, Then-row-lt128}
+use Rattle.commits.proofs.weigh.Goals.{After-row_of-row, Start}
 
 -- the two tests that are counted
 abbrev new : Start → ℕ → Bool
@@ -38,21 +38,17 @@ one c =
     ready_one r (c.row_of-row.ensures (take a.h.pending (pendings a.pending.now)) r.indexed)
 
 -- an object that has an entry adds none
-no_entry : (c : Then-row-lt128)
-    → Counts (new c.before.before.before.before.before.before.before) c.args.objects.now (c.loop-k.k + 1) c.loop-k.entries
-no_entry c =
-    let v = c.loop-k in
-    counts_none (new c.before.before.before.before.before.before.before) c.args.objects.now v.k v.entries v.invariant.3 0 c.loop-k-test.true (old_at (one c.before) c.if-row-lt128.true) refl
-
 pub loop-k-preserved-then-displaces : goal.loop-k-preserved-then-displaces
 loop-k-preserved-then-displaces c =
     let v = c.loop-k in
-    (omega arith, omega arith, omega arith, no_entry (goal.at.loop-k-preserved-then-displaces c).Then-row-lt128, λ copied. counts_one (old (goal.at.loop-k-preserved-then-displaces c).Start copied) c.args.objects.now v.k v.rows (v.invariant.4 copied) 0 c.loop-k-test.true (c.displaces.ensures copied) c.if-displaces.true)
+    let n = counts_none (new (goal.at.loop-k-preserved-then-displaces c).Start) c.args.objects.now v.k v.entries v.invariant.3 0 c.loop-k-test.true (old_at (one (goal.at.loop-k-preserved-then-displaces c).After-row_of-row) c.if-row-lt128.true) refl in
+    (omega arith, omega arith, omega arith, n, λ copied. counts_one (old (goal.at.loop-k-preserved-then-displaces c).Start copied) c.args.objects.now v.k v.rows (v.invariant.4 copied) 0 c.loop-k-test.true (c.displaces.ensures copied) c.if-displaces.true)
 
 pub loop-k-preserved-else-displaces : goal.loop-k-preserved-else-displaces
 loop-k-preserved-else-displaces c =
     let v = c.loop-k in
-    (omega arith, omega arith, omega arith, no_entry (goal.at.loop-k-preserved-else-displaces c).Then-row-lt128, λ copied. counts_none (old (goal.at.loop-k-preserved-else-displaces c).Start copied) c.args.objects.now v.k v.rows (v.invariant.4 copied) 0 c.loop-k-test.true (c.displaces.ensures copied) c.if-displaces.false)
+    let n = counts_none (new (goal.at.loop-k-preserved-else-displaces c).Start) c.args.objects.now v.k v.entries v.invariant.3 0 c.loop-k-test.true (old_at (one (goal.at.loop-k-preserved-else-displaces c).After-row_of-row) c.if-row-lt128.true) refl in
+    (omega arith, omega arith, omega arith, n, λ copied. counts_none (old (goal.at.loop-k-preserved-else-displaces c).Start copied) c.args.objects.now v.k v.rows (v.invariant.4 copied) 0 c.loop-k-test.true (c.displaces.ensures copied) c.if-displaces.false)
 
 -- one that has none adds one, and displaces nothing
 pub loop-k-preserved : goal.loop-k-preserved

@@ -37,19 +37,19 @@ loop-k-preserved c =
     let ps = pendings a.t.now in
     let n : a.n ≤ length ps = omega arith in
     let o : v.k < length a.out.now = omega arith in
-    (elim c.if-row-n.branch [ then-row-n w ↦ let e = w.1.result in
+    (elim c.if-row-n.branch [ then-row-n w ↦ let e = w.pending_at-e.result in
     let b = either a.v.current (leb e.latest a.v.stamp) in
     let x = part_of a.v.ages (pending_seen e) in
-    let q = w.6 ∙ w.3.ensures in (
+    let q = w.out-is ∙ w.lay_entry.ensures in (
       omega arith,
       put_length b v.out v.k x q v.invariant.1,
       replace_more (laid (goal.at.loop-k-preserved c).Start) a.out.now v.k v.invariant.2 (same (goal.at.loop-k-preserved c).Start) o b x
-          (word_shown a.v v.k c.loop-k-test.true p.n_bound.2 ps a.n p.indexed.0 p.indexed.1 p.n_bound.0 n a.out.now p.n_bound.3 w.if-row-n.true w.1.ensures) q,
+          (word_shown a.v v.k c.loop-k-test.true p.n_bound.2 ps a.n p.indexed.0 p.indexed.1 p.n_bound.0 n a.out.now p.n_bound.3 w.if-row-n.true w.pending_at-e.ensures) q,
     ) | else-row-n w ↦ (
       omega arith,
-      ap length w.1 ∙ v.invariant.1,
+      ap length w.out-is ∙ v.invariant.1,
       replace_more (laid (goal.at.loop-k-preserved c).Start) a.out.now v.k v.invariant.2 (same (goal.at.loop-k-preserved c).Start) o false 0
-          (word_none a.v v.k c.loop-k-test.true p.n_bound.2 ps a.n p.indexed.0 p.indexed.1 p.n_bound.0 n a.out.now p.n_bound.3 w.if-row-n.false) w.1,
+          (word_none a.v v.k c.loop-k-test.true p.n_bound.2 ps a.n p.indexed.0 p.indexed.1 p.n_bound.0 n a.out.now p.n_bound.3 w.if-row-n.false) w.out-is,
     ) ])
 
 pub returns : goal.returns

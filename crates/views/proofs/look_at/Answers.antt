@@ -29,16 +29,16 @@ under c dated =
     let p = c.requires.lookable in
     let qs = take a.h.past (pasts a.past.now) in
     let d = c.sixteen.ensures ∙ page_cut a.disk.now (16 * a.page) (omega (arith, p.value_words, p.in_range)) in
-    (elim c.if-not-v.branch [ then-not-v w ↦ w.5 ∙ w.2.ensures ∙ beneath_past a.disk.now dated qs (asked c) d (not-true _ w.if-not-v.true) | else-not-v w ↦ w.1 ∙ beneath_now a.disk.now dated qs (asked c) d (not-false _ w.if-not-v.false) ])
+    (elim c.if-not-v.branch [ then-not-v w ↦ w.out-is ∙ w.lay_past.ensures ∙ beneath_past a.disk.now dated qs (asked c) d (not-true _ w.if-not-v.true) | else-not-v w ↦ w.out-is ∙ beneath_now a.disk.now dated qs (asked c) d (not-false _ w.if-not-v.false) ])
 
 pub returns-then-h-gt0 : goal.returns-then-h-gt0
-returns-then-h-gt0 c =
+returns-then-h-gt0 c dated snapshots copies copied =
     let a = c.args in
     c.lay_entries.ensures
     ∙ look_page a.disk.now dated a.pending.now a.past.now a.h (asked (goal.at.returns-then-h-gt0 c).Joined-not-v) c.requires.lookable (under (goal.at.returns-then-h-gt0 c).Joined-not-v dated) snapshots copies copied
 
 pub returns-else-h-gt0 : goal.returns-else-h-gt0
-returns-else-h-gt0 c =
+returns-else-h-gt0 c dated snapshots copies copied =
     let a = c.args in
     lay_none (shows_b (asked (goal.at.returns-else-h-gt0 c).Joined-not-v)) (λ e. slot_of e.object) (λ e. part_of false (pending_seen e)) a.h.pending (pendings a.pending.now) c.if-not-v.out c.if-h-gt0.false
     ∙ look_page a.disk.now dated a.pending.now a.past.now a.h (asked (goal.at.returns-else-h-gt0 c).Joined-not-v) c.requires.lookable (under (goal.at.returns-else-h-gt0 c).Joined-not-v dated) snapshots copies copied
