@@ -9,7 +9,7 @@ use model::{Answer, Verdict};
 use tables::Heads;
 
 // What a change hands back: the heads, the answer, and the place for the next call.
-#[derive(Drop)]
+#[derive(Clone, Copy)]
 pub struct Changed {
     pub heads: Heads,
     pub answer: Answer,

@@ -72,7 +72,7 @@ fn displaces(
 }
 
 // How many entries and how many past values a commit's writes add.
-#[derive(Drop)]
+#[derive(Clone, Copy)]
 pub struct Weight {
     pub entries: usize,
     pub rows: usize,
@@ -192,7 +192,7 @@ fn write_one(
 
 // What a commit moves of the heads. The two counts don't stand side by side: the compiler would read them as one word of twice the
 // size, which has to wait until both are stored.
-#[derive(Drop)]
+#[derive(Clone, Copy)]
 pub struct Grown {
     pub pending: usize,
     pub last: u64,

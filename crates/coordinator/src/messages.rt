@@ -12,14 +12,14 @@ use model::Answer;
 use requests::Asked;
 
 // What a message says to its sender: its length in bytes and its curr.
-#[derive(Drop)]
+#[derive(Clone, Copy)]
 struct Sent {
     length: usize,
     curr: u64,
 }
 
 // Where a message's stamps stand among the granted ones, and its curr.
-#[derive(Drop)]
+#[derive(Clone, Copy)]
 struct Chosen {
     start: usize,
     end: usize,

@@ -18,7 +18,7 @@ use shares::Share;
 use tables::{Copied, CopyTable, Disk, Heads, PastTable, PendingTable, Snapshots};
 
 // What the judge found and the writer needs: the page's share of the tables, how many snapshots are due, the page's mark after the flush, and how many past rows stay.
-#[derive(Drop)]
+#[derive(Clone, Copy)]
 pub struct Plan {
     pub share: Share,
     pub dues: usize,
@@ -26,14 +26,14 @@ pub struct Plan {
     pub staying: usize,
 }
 
-#[derive(Drop)]
+#[derive(Clone, Copy)]
 pub struct Judged {
     pub verdict: Verdict,
     pub plan: Plan,
 }
 
 // How a page's past rows are judged: the page, its mark after the flush, the horizon, and how many snapshots are known.
-#[derive(Drop)]
+#[derive(Clone, Copy)]
 pub struct Rule {
     pub page: u64,
     pub mark: u64,

@@ -12,7 +12,7 @@ use model::{Answer, Verdict};
 use tables::{CopyTable, Heads, PastTable, Snapshots};
 
 // How a message's stamps stand against the known snapshots.
-#[derive(Drop)]
+#[derive(Clone, Copy)]
 pub enum Compared {
     Same,
     Differ(u64),

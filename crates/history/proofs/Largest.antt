@@ -1,6 +1,6 @@
 -- The largest known snapshot at or before a time is known, is at or before it, and no other such is larger.
 use Prim.Native.Nat.{ℕ, ◌≤◌, ◌<◌, max}
-use mathlib.Core.Path.{◌≡◌, refl}
+use mathlib.Core.Path.{◌≡◌, refl, sym, subst}
 use mathlib.Core.Bool.{true, false}
 use mathlib.Core.List.{List, [], ◌∷◌}
 use native.Mathlib.Omega.{arith}
@@ -32,8 +32,12 @@ largest_known time (x ∷ xs) h =
     by_le n x
     (λ m.
     let q : max x n ≡ x = omega arith in
-    rw (e, q) (either_left (elem_b x xs) (eq-eqb x x refl)))
+    let l : largest time (x ∷ xs) ≡ x = rw e q in
+    subst (λ (k : ℕ). elem_b k (x ∷ xs) ≡ true) (sym l) (either_left (elem_b x xs) (eq-eqb x x refl)))
     (λ m.
     let q : max x n ≡ n = omega arith in
-    rw (e, q) (either_right (eqb x n) (largest_known time xs (omega arith)))))
-    (λ e. rw e (either_right (eqb x n) (largest_known time xs (rw e at h))))
+    let l : largest time (x ∷ xs) ≡ n = rw e q in
+    subst (λ (k : ℕ). elem_b k (x ∷ xs) ≡ true) (sym l) (either_right (eqb x n) (largest_known time xs (omega arith)))))
+    (λ e.
+    let l : largest time (x ∷ xs) ≡ n = rw e refl in
+    subst (λ (k : ℕ). elem_b k (x ∷ xs) ≡ true) (sym l) (either_right (eqb x n) (largest_known time xs (rw e at h))))

@@ -18,7 +18,7 @@ use crate::words::Class;
 
 // What is wrong with a line that is no call: no such call, a word is missing, a byte that is no digit, a number of 2^64 or more,
 // a write without its `=`, a word too many, a byte that is no hex digit, more than 1024 hex digits, an odd number of them.
-#[derive(Drop)]
+#[derive(Clone, Copy)]
 pub enum Fault {
     Unknown,
     Missing,
@@ -32,7 +32,7 @@ pub enum Fault {
 }
 
 // What help is about: the calls, the codes of the answers, the figures of standing.
-#[derive(Drop)]
+#[derive(Clone, Copy)]
 pub enum Topic {
     Calls,
     Codes,
@@ -42,7 +42,7 @@ pub enum Topic {
 // A call with its numbers. Commit has its stamp and how many writes were kept, Gossip its two stamps and how many snapshots were kept,
 // Hear where its hex word begins and ends in the line.
 // A line that is no call is Wrong, with its first fault and the column of that, counted from 1.
-#[derive(Drop)]
+#[derive(Clone, Copy)]
 pub enum Call {
     Blank,
     Commit(u64, usize),

@@ -9,7 +9,7 @@ use crate::numbers::{Item, Row};
 use crate::{Fault, numbers, words};
 
 // How many are kept, or what is wrong and its column.
-#[derive(Drop)]
+#[derive(Clone, Copy)]
 pub enum Listed {
     Count(usize),
     Wrong(Fault, usize),

@@ -3,7 +3,7 @@ ghost use Rattle.std.specs.Prelude.{◌≡◌};
 ghost use Rattle.lines.specs.Names.{same_b, name_of, read_name, bare_name, other_name};
 
 // The calls of no number.
-#[derive(Drop)]
+#[derive(Clone, Copy)]
 pub enum Bare {
     Standing,
     Fresh,
@@ -12,7 +12,7 @@ pub enum Bare {
 }
 
 // The calls of one number.
-#[derive(Drop)]
+#[derive(Clone, Copy)]
 pub enum Single {
     Flush,
     Now,
@@ -21,13 +21,13 @@ pub enum Single {
 }
 
 // The calls of two numbers.
-#[derive(Drop)]
+#[derive(Clone, Copy)]
 pub enum Double {
     Read,
     Clock,
 }
 
-#[derive(Drop)]
+#[derive(Clone, Copy)]
 pub enum Name {
     Commit,
     Gossip,

@@ -10,28 +10,28 @@ use crate::{Fault, words};
 const MOST: usize = 1024;
 
 // A number, or what is wrong and its column.
-#[derive(Drop)]
+#[derive(Clone, Copy)]
 pub enum Number {
     Value(u64),
     Wrong(Fault, usize),
 }
 
 // Two numbers, or what is wrong and its column.
-#[derive(Drop)]
+#[derive(Clone, Copy)]
 pub enum Item {
     Pair(u64, u64),
     Wrong(Fault, usize),
 }
 
 // Where a hex word begins and ends in the line, or what is wrong and its column.
-#[derive(Drop)]
+#[derive(Clone, Copy)]
 pub enum Hexed {
     Part(usize, usize),
     Wrong(Fault, usize),
 }
 
 // What the words of a list are: writes, or stamps.
-#[derive(Drop)]
+#[derive(Clone, Copy)]
 pub enum Row {
     Write,
     Stamp,

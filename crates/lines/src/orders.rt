@@ -12,7 +12,7 @@ use crate::{Fault, takes, titles, words};
 
 // An order with its numbers; Serve has where its hex word begins and ends in the line.
 // A line that is no order is Wrong, with its first fault and the column of that, counted from 1.
-#[derive(Drop)]
+#[derive(Clone, Copy)]
 pub enum Order {
     Blank,
     Grant(u64, u64),

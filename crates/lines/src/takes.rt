@@ -8,28 +8,28 @@ use crate::numbers::{Hexed, Item, Number};
 use crate::{Fault, numbers, words};
 
 // The number, and where the rest of the line begins.
-#[derive(Drop)]
+#[derive(Clone, Copy)]
 pub struct Taken {
     pub number: Number,
     pub next: usize,
 }
 
 // The same of two numbers.
-#[derive(Drop)]
+#[derive(Clone, Copy)]
 pub struct TakenPair {
     pub item: Item,
     pub next: usize,
 }
 
 // The same of a hex word.
-#[derive(Drop)]
+#[derive(Clone, Copy)]
 pub struct TakenHex {
     pub hex: Hexed,
     pub next: usize,
 }
 
 // No word is left, or one that begins in this column.
-#[derive(Drop)]
+#[derive(Clone, Copy)]
 pub enum Rest {
     Nothing,
     Word(usize),

@@ -5,7 +5,7 @@ ghost use Rattle.lines.specs.Orders.{title_of, lone_title};
 use crate::names;
 
 // The orders of no word.
-#[derive(Drop)]
+#[derive(Clone, Copy)]
 pub enum Lone {
     Granted,
     Help,
@@ -13,13 +13,13 @@ pub enum Lone {
 }
 
 // The orders of two numbers.
-#[derive(Drop)]
+#[derive(Clone, Copy)]
 pub enum Paired {
     Grant,
     Message,
 }
 
-#[derive(Drop)]
+#[derive(Clone, Copy)]
 pub enum Title {
     Lone(Lone),
     Paired(Paired),

@@ -4,7 +4,7 @@ ghost use Rattle.lines.specs.Words.{blank, digit, hex_digit, leading, of_class, 
 ghost use Rattle.lines.specs.Promises.{Next};
 
 // What a byte can be: a blank, no blank, a digit, a hex digit, no `#`, no `=`.
-#[derive(Drop)]
+#[derive(Clone, Copy)]
 pub enum Class {
     Gap,
     Ink,
@@ -15,7 +15,7 @@ pub enum Class {
 }
 
 // The bytes of a word, from `from` up to `to`.
-#[derive(Drop)]
+#[derive(Clone, Copy)]
 pub struct Span {
     pub from: usize,
     pub to: usize,

@@ -6,7 +6,7 @@ ghost use Rattle.std.specs.Prelude.{◌≡◌};
 ghost use Rattle.model.specs.Answers.{code_of, number_of};
 
 // An object's change since the last flush: its first stamp, its latest stamp, its value.
-#[derive(Drop)]
+#[derive(Clone, Copy)]
 pub struct Pending {
     pub object: u64,
     pub first: u64,
@@ -15,7 +15,7 @@ pub struct Pending {
 }
 
 // The object had this value at each stamp s with from <= s < until.
-#[derive(Drop)]
+#[derive(Clone, Copy)]
 pub struct Past {
     pub object: u64,
     pub from: u64,
@@ -24,14 +24,14 @@ pub struct Past {
 }
 
 // A value, and the stamp of the commit that wrote it.
-#[derive(Drop)]
+#[derive(Clone, Copy)]
 pub struct Seen {
     pub value: u64,
     pub stamp: u64,
 }
 
 // What standing reports; the lag is a signed count of ticks.
-#[derive(Drop)]
+#[derive(Clone, Copy)]
 pub struct Figures {
     pub pending: u64,
     pub past: u64,
@@ -41,7 +41,7 @@ pub struct Figures {
 }
 
 // What a call answers: a case for each code, with the number where the code has one.
-#[derive(Drop)]
+#[derive(Clone, Copy)]
 pub enum Answer {
     Done(u64),
     Nothing(u64),
@@ -64,7 +64,7 @@ pub enum Answer {
 }
 
 // What a store says of a well-formed change, the journal aside.
-#[derive(Drop)]
+#[derive(Clone, Copy)]
 pub enum Verdict {
     Accepted,
     Idle,

@@ -3,7 +3,7 @@ use crate::print;
 use tables::{Copied, CopyTable, Disk, Heads, PastTable, PendingTable, Snapshots};
 
 // With a time, with a tick.
-#[derive(Drop)]
+#[derive(Clone, Copy)]
 pub enum Call {
     Snapshot(u64),
     Clock(u64),

@@ -4,7 +4,7 @@ use crate::{calls, filled, lay};
 use tables::Heads;
 
 // The object, object, snapshot and page of the last rows.
-#[derive(Drop)]
+#[derive(Clone, Copy)]
 pub struct Last {
     pub entry: u64,
     pub was: u64,

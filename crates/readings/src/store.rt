@@ -2,7 +2,7 @@
 use model::{Past, Pending};
 use tables::{CopyHead, Heads};
 
-#[derive(Drop)]
+#[derive(Clone, Copy)]
 pub struct Small {
     pub pending: [Pending; 3],
     pub past: [Past; 3],

@@ -18,14 +18,14 @@ use model::{Answer, Figures};
 use tables::{Copied, CopyTable, Disk, Found, Heads, PastTable, PendingTable, Snapshots};
 
 // Standing's answer, and its five figures.
-#[derive(Drop)]
+#[derive(Clone, Copy)]
 pub struct Stood {
     pub answer: Answer,
     pub figures: Figures,
 }
 
 // Known's answer, the horizon, the last commit, and the known snapshots: how many, and each, with zeros behind them.
-#[derive(Drop)]
+#[derive(Clone, Copy)]
 pub struct Knowledge {
     pub answer: Answer,
     pub horizon: u64,

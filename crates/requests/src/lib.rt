@@ -7,7 +7,7 @@ ghost use Rattle.model.specs.Exchange.{request_bytes, request_in};
 ghost use Rattle.requests.specs.Asking.{asked};
 
 // What bytes ask for: the message from a prev up to a clock stamp, or nothing.
-#[derive(Drop)]
+#[derive(Clone, Copy)]
 pub enum Asked {
     Nothing,
     For(u64, u64),

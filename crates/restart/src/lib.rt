@@ -18,7 +18,7 @@ use model::Answer;
 use tables::{Copied, CopyTable, Disk, Heads, PastTable, PendingTable, Snapshots};
 
 // What a start hands back: the heads, the answer, and the place for the next call.
-#[derive(Drop)]
+#[derive(Clone, Copy)]
 pub struct Started {
     pub heads: Heads,
     pub answer: Answer,

@@ -9,7 +9,7 @@ use model::Verdict;
 use tables::{Copied, CopyTable, Disk, Heads, Index, PastTable, PendingTable, Snapshots};
 
 // Whether the store accepted the record, and the heads after it.
-#[derive(Drop)]
+#[derive(Clone, Copy)]
 pub struct Replayed {
     pub accepted: bool,
     pub heads: Heads,

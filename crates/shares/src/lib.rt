@@ -14,7 +14,7 @@ use model::{Past, Pending};
 use tables::{Heads, PastTable, PendingTable};
 
 // How many past rows and entries are of a page; their numbers stand beside it.
-#[derive(Drop)]
+#[derive(Clone, Copy)]
 pub struct Share {
     pub rows: usize,
     pub entries: usize,

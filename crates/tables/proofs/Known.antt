@@ -68,9 +68,17 @@ pick_same : (b : Bool) (x : ℕ) → pick b x x ≡ x
 pick_same true x = refl
 pick_same false x = refl
 
+cons_by : (b : Bool) (x v : ℕ) (l : List ℕ) → b ≡ false
+    → pick b 0 (largest v (x ∷ l)) ≡ pick (leb x v) (max x (pick b 0 (largest v l))) (pick b 0 (largest v l))
+cons_by true x v l e = clash e
+cons_by false x v l e = refl
+
 last_cons : (x u : ℕ) (l : List ℕ) → last_before (x ∷ l) u ≡ pick (ltb x u) (max x (last_before l u)) (last_before l u)
 last_cons x zero l = rw (le-ltb x 0 (omega arith))
-last_cons x (suc u) l = let e : suc u - 1 ≡ u = omega arith in rw (eqb-suc-zero u, e, leb-suc-suc x u)
+last_cons x (suc u) l =
+    let e : suc u - 1 ≡ u = omega arith in
+    cons_by (eqb (suc u) 0) x (suc u - 1) l (eqb-suc-zero u)
+    ∙ ap (λ b. pick b (max x (last_before l (suc u))) (last_before l (suc u))) (ap (leb x) e ∙ sym (leb-suc-suc x u))
 
 -- a later stamp is wanted where an earlier one is, so that of two the later one decides
 wants_later : (x y m : ℕ) (q : Past) → x ≤ y → wants_b x m q ≡ true → wants_b y m q ≡ true

@@ -15,4 +15,3 @@ pub mod Bridges
 pub mod Indexing
 pub mod Compacts
 pub mod Blocks
-pub mod Lent

@@ -9,7 +9,7 @@ use crate::{PastTable, Snapshots};
 use model::Past;
 
 // Sixteen rows, the first n of them kept.
-#[derive(Drop)]
+#[derive(Clone, Copy)]
 pub struct Front {
     pub rows: [Past; 16],
     pub n: usize,
@@ -52,7 +52,7 @@ fn next(stays: bool, k: usize) -> usize
     if stays { k + 1 } else { k }
 }
 
-// Of the first n rows, those that stay go to the front in their order. A walk by hand: a lent slice of structs.
+// Of the first n rows, those that stay go to the front in their order.
 pub fn compact(rows: &mut [Past], n: usize, stay: [bool; 16]) -> usize
     requires { (n ≤ length rows.old) × (n ≤ 16) }
     ensures { Compacted stay n rows.old rows.new result }
@@ -68,7 +68,7 @@ pub fn compact(rows: &mut [Past], n: usize, stay: [bool; 16]) -> usize
     k
 }
 
-// The same on rows by value, so that callers are covered.
+// The same on rows by value.
 pub fn compacted(rows: [Past; 16], n: usize, stay: [bool; 16]) -> Front
     requires { n ≤ 16 }
     ensures { Compacted stay n rows result.rows result.n }

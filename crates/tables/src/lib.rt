@@ -33,7 +33,7 @@ pub type Index = [u8; 512];
 
 // The counts of the tables, the horizon and the last commit.
 #[repr(C)]
-#[derive(Drop)]
+#[derive(Clone, Copy)]
 pub struct Heads {
     pub pending: usize,
     pub past: usize,
@@ -43,13 +43,13 @@ pub struct Heads {
     pub last: u64,
 }
 
-#[derive(Drop)]
+#[derive(Clone, Copy)]
 pub struct CopyHead {
     pub page: u64,
     pub stamp: u64,
 }
 
-#[derive(Drop)]
+#[derive(Clone, Copy)]
 pub enum Found {
     At(usize),
     Nothing,

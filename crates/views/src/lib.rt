@@ -13,7 +13,7 @@ use model::{Past, Pending};
 use tables::{Disk, Heads, PastTable, PendingTable};
 
 // What is asked of a page: as of a stamp or current, and the values or their ages, which are the stamps that wrote them.
-#[derive(Drop)]
+#[derive(Clone, Copy)]
 pub struct View {
     pub page: u64,
     pub current: bool,

@@ -1,10 +1,15 @@
-use Rattle.std.proofs.Common.{◌-◌, ◌≡◌, ◌≤◌, ◌+◌, ◌*◌, length, take, drop, ℕ, ◌<◌}
-use Rattle.model.specs.Bytes.{be, from_be, column, write_at}
+-- `fields::get_be` meets its contract: the bytes read so far, with those that are left, make the number; so many bytes have room in a u64.
+use borrow.Author.Rules.{rules}
+use Prim.Native.Nat.{ℕ, suc, ◌≤◌, ◌<◌, ◌-◌, ◌+◌, ◌*◌, ◌^◌}
+use native.Mathlib.Omega.{arith}
+use mathlib.Core.Path.{◌≡◌, refl, ◌∙◌, sym, ap}
+use lib.ListN.{take, drop, length, get_or}
+use Rattle.model.specs.Bytes.{from_be, from_be_after}
+use Rattle.fields.proofs.Laws.{room, get_turn, get_end}
 use Rattle.fields.proofs.get_be.Given as goal
 
 abbrev pub invariant-loop-i : goal.invariant-loop-i
-invariant-loop-i l = ?
+invariant-loop-i l = (l.i ≤ l.width) × (l.a < 256 ^ l.i) × (from_be_after l.a (drop l.i (take l.width (drop l.at l.s))) ≡ from_be (take l.width (drop l.at l.s)))
 
--- proposed from the loop's first test
 abbrev pub decreases-loop-i : goal.decreases-loop-i
 decreases-loop-i l = l.width - l.i

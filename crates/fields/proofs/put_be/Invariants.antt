@@ -1,10 +1,15 @@
-use Rattle.std.proofs.Common.{◌≡◌, ◌≤◌, ◌+◌, ◌*◌, length, take, drop, ℕ, ◌-◌, ◌<◌}
-use Rattle.model.specs.Bytes.{be, from_be, column, write_at}
+-- `fields::put_be` meets its contract: the low bytes are in place, and the rest of the number is still to be written before them.
+use borrow.Author.Rules.{rules}
+use Prim.Native.Nat.{ℕ, suc, ◌≤◌, ◌-◌, ◌+◌}
+use native.Mathlib.Omega.{arith}
+use mathlib.Core.Path.{◌≡◌, refl, ◌∙◌, sym, ap}
+use lib.ListN.{take, drop, length, length-set}
+use Rattle.model.specs.Bytes.{be, write_at}
+use Rattle.fields.proofs.Laws.{put_turn, put_none}
 use Rattle.fields.proofs.put_be.Given as goal
 
 abbrev pub invariant-loop-k : goal.invariant-loop-k
-invariant-loop-k l = ?
+invariant-loop-k l = (l.k ≤ l.width) × (length l.j ≡ length l.initial.j) × (write_at l.at (be l.k l.y) l.j ≡ write_at l.at (be l.width l.x) l.initial.j)
 
--- proposed from the loop's first test
 abbrev pub decreases-loop-k : goal.decreases-loop-k
 decreases-loop-k l = l.k

@@ -1,0 +1,10 @@
+-- Of the first i rows, those that stay are at the front, k of them.
+use Rattle.std.proofs.Common.{◌≤◌, ◌-◌}
+use Rattle.tables.specs.Compaction.{Compacted}
+use Rattle.tables.proofs.dropping.compact.Given as goal
+
+abbrev pub invariant-loop-i : goal.invariant-loop-i
+invariant-loop-i l = (l.i ≤ l.n) × Compacted l.stay l.i l.initial.rows l.rows l.k
+
+abbrev pub decreases-loop-i : goal.decreases-loop-i
+decreases-loop-i l = l.n - l.i

@@ -1,0 +1,14 @@
+-- From the last row to the first, the code holds the oldest serving copy of the rows passed, or that there is none.
+use Prim.Native.Nat.{◌≤◌}
+use native.Mathlib.Omega.{arith}
+use borrow.Author.Rules.{rules}
+use Rattle.tables.specs.Rows.{copy_heads}
+use Rattle.tables.proofs.Backward.{Turn}
+use Rattle.tables.proofs.Oldest.{Held, held_start, held_other, held_early, held_taken, held_kept, serving_found, serving_none}
+use Rattle.tables.proofs.lookups.serving.Given as goal
+
+abbrev pub invariant-loop-i : goal.invariant-loop-i
+invariant-loop-i l = (l.i ≤ l.n) × Held (copy_heads l.t) l.n l.page l.s l.best l.at l.i
+
+abbrev pub decreases-loop-i : goal.decreases-loop-i
+decreases-loop-i l = l.i
