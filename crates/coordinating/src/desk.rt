@@ -94,7 +94,7 @@ enum Kept {
 }
 
 // A state that a call has changed goes to the file, for good. A file of no bytes is that of a fresh state.
-fn saved(path: &[u8], length: usize, old: &[u8], new: &[u8]) -> Kept {
+fn saved(rt: &HostRuntime, path: &[u8], length: usize, old: &[u8], new: &[u8]) -> Kept {
     if path.len() == 0 {
         return Kept::Bytes(0);
     }
@@ -102,35 +102,42 @@ fn saved(path: &[u8], length: usize, old: &[u8], new: &[u8]) -> Kept {
         return Kept::Bytes(length);
     }
     let n = paths::within(length, old);
-    if whole::is_replaced(path, &old[..n], new) {
+    if whole::is_replaced(rt, path, &old[..n], new) {
         return Kept::Bytes(new.len());
     }
     Kept::Failed
 }
 
 // A grant is answered by its stamp, the others by a message too.
-fn is_said(order: Order, answer: Answer, message: &[u8]) -> bool {
+fn is_said(rt: &HostRuntime, order: Order, answer: Answer, message: &[u8]) -> bool {
     if let Order::Grant(_, _) = order {
-        return say::answer(answer);
+        return say::answer(rt, answer);
     }
     let n = say::written(answer, message);
-    say::bytes(answer, &message[..n])
+    say::bytes(rt, answer, &message[..n])
 }
 
 // A call that may change the state: what it changes is kept before it is answered.
-fn settled(path: &[u8], desk: Desk, line: &[u8], order: Order, state: &mut State) -> Desk {
+fn settled(
+    rt: &HostRuntime,
+    path: &[u8],
+    desk: Desk,
+    line: &[u8],
+    order: Order,
+    state: &mut State,
+) -> Desk {
     let mut old = [0u8; STATE_ROOM];
     let n = bytes_of(state, &mut old);
     let mut message = [0u8; MESSAGE_ROOM];
     let answer = answer_to(order, line, state, &mut message);
     let mut new = [0u8; STATE_ROOM];
     let m = bytes_of(state, &mut new);
-    let kept = saved(path, desk.length, &old[..n], &new[..m]);
+    let kept = saved(rt, path, desk.length, &old[..n], &new[..m]);
     match kept {
         Kept::Failed => desk.after(false),
         Kept::Bytes(count) => {
             let length = count;
-            let given = is_said(order, answer, &message);
+            let given = is_said(rt, order, answer, &message);
             Desk {
                 length,
                 going: given,
@@ -141,34 +148,41 @@ fn settled(path: &[u8], desk: Desk, line: &[u8], order: Order, state: &mut State
 }
 
 // How many stamps are granted, the largest curr sent, and the stamps.
-fn show(state: &State) -> bool {
+fn show(rt: &HostRuntime, state: &State) -> bool {
     let sent = coordinator::sent(state);
     let stamps = coordinator::stamps(state);
-    say::known(Answer::Done(0), stamps.len() as u64, sent, stamps)
+    say::known(rt, Answer::Done(0), stamps.len() as u64, sent, stamps)
 }
 
 // The line of this number. One without a call is passed over.
-pub fn served(state: &mut State, path: &[u8], desk: Desk, line: &[u8], number: u64) -> Desk {
+pub fn served(
+    rt: &HostRuntime,
+    state: &mut State,
+    path: &[u8],
+    desk: Desk,
+    line: &[u8],
+    number: u64,
+) -> Desk {
     let order = lines::orders::read_order(line);
     match order {
         Order::Blank => desk,
         Order::Help => {
-            let said = help::print();
+            let said = help::print(rt);
             desk.after(said)
         }
         Order::Quit => desk.ended(),
         Order::Wrong(fault, column) => {
             let f = fault;
             let c = column;
-            let said = say::wrong(f, number, c);
+            let said = say::wrong(rt, f, number, c);
             desk.after(said)
         }
         Order::Granted => {
-            let said = show(state);
+            let said = show(rt, state);
             desk.after(said)
         }
         Order::Grant(_, _) | Order::Message(_, _) | Order::Serve(_, _) => {
-            settled(path, desk, line, order, state)
+            settled(rt, path, desk, line, order, state)
         }
     }
 }

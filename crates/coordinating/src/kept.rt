@@ -8,7 +8,7 @@ use coordinator::State;
 use files::file::Whole;
 use files::{file, fit, lock, whole};
 use model::Answer;
-use terminal::input::Input;
+use terminal::input::{Input, Source};
 use terminal::{input, say};
 
 // No coordinator: the program ends.
@@ -21,7 +21,7 @@ fn closed() -> Desk {
 }
 
 // The coordinator of a file that was read, or one in memory. A file that is refused stays as it is.
-fn begun(path: &[u8], read: Whole, answer: Answer) -> Desk {
+fn begun(rt: &HostRuntime, path: &[u8], read: Whole, answer: Answer) -> Desk {
     let Whole::Bytes(length) = read else {
         return closed();
     };
@@ -34,17 +34,24 @@ fn begun(path: &[u8], read: Whole, answer: Answer) -> Desk {
         return desk;
     }
     if answer.code() != 0 {
-        say::opening(b"refused ", path, answer);
+        say::opening(rt, b"refused ", path, answer);
         return closed();
     }
-    if !say::opening(b"opened ", path, answer) {
+    if !say::opening(rt, b"opened ", path, answer) {
         return closed();
     }
     desk
 }
 
 // Serves each line of the input. False where something failed.
-fn run(state: &mut State, path: &[u8], buffer: &mut [u8], begun: Desk, first: Input) -> bool
+fn run(
+    rt: &HostRuntime,
+    state: &mut State,
+    path: &[u8],
+    buffer: &mut [u8],
+    begun: Desk,
+    first: Input,
+) -> bool
     requires { Within first (length buffer.old) }
 {
     let mut desk = begun;
@@ -59,72 +66,72 @@ fn run(state: &mut State, path: &[u8], buffer: &mut [u8], begun: Desk, first: In
             return !input.failed;
         }
         let number = input.line;
-        let taken = input::take(buffer, input);
+        let taken = input::take(rt, buffer, input);
         input = taken.input;
         let from = taken.from;
         let to = taken.to;
-        desk = desk::served(state, path, desk, &buffer[from..to], number);
+        desk = desk::served(rt, state, path, desk, &buffer[from..to], number);
     }
     true
 }
 
 // The bytes of the file; none in memory.
-fn read(path: &[u8], out: &mut [u8]) -> Whole {
+fn read(rt: &HostRuntime, path: &[u8], out: &mut [u8]) -> Whole {
     if path.len() == 0 {
         return Whole::Bytes(0);
     }
-    whole::read(path, out)
+    whole::read(rt, path, out)
 }
 
-// The input is the descriptor's, or the demonstration's where that is -1. A state has fewer bytes than there is room for here, so a
+// The input is standard input, or the demonstration's lines. A state has fewer bytes than there is room for here, so a
 // file that is longer shows.
-fn serve(path: &[u8], source: i32) -> bool {
+fn serve(rt: &HostRuntime, path: &[u8], source: Source) -> bool {
     let mut state = [0u64; 66];
     let mut bytes = io::buffer();
-    let read = read(path, &mut bytes);
+    let read = read(rt, path, &mut bytes);
     let n = file::count(read, &bytes);
     let answer = coordinator::kept::restart(&mut state, &bytes[..n]);
-    let desk = begun(path, read, answer);
+    let desk = begun(rt, path, read, answer);
     let mut buffer = input::buffer();
     let input = laid(&mut buffer, source);
-    run(&mut state, path, &mut buffer, desk, input)
+    run(rt, &mut state, path, &mut buffer, desk, input)
 }
 
 // The input at its start. The demonstration's lines are in the buffer already.
-fn laid(buffer: &mut [u8], source: i32) -> Input
+fn laid(buffer: &mut [u8], source: Source) -> Input
     ensures { Within result (length buffer.new) }
 {
-    if source < 0 {
+    if let Source::Laid = source {
         let end = demo::lay(buffer);
         return input::at_start(buffer, source, end);
     }
     input::at_start(buffer, source, 0)
 }
 
-pub fn in_memory() -> bool {
-    serve(b"", libc::STDIN_FILENO)
+pub fn in_memory(rt: &HostRuntime) -> bool {
+    serve(rt, b"", Source::Typed)
 }
 
-pub fn shown() -> bool {
-    serve(b"", -1)
+pub fn shown(rt: &HostRuntime) -> bool {
+    serve(rt, b"", Source::Laid)
 }
 
 // Nothing is made before the name is known to be fit, and nothing read before the lock is ours. False where something failed, after a
 // word on standard error.
-pub fn in_file(path: &[u8]) -> bool {
-    if !say::are_open() {
+pub fn in_file(rt: &HostRuntime, path: &[u8]) -> bool {
+    if !say::are_open(rt) {
         return false;
     }
-    if !fit::is_fit(path, b"a coordinator's file") {
+    if !fit::is_fit(rt, path, b"a coordinator's file") {
         return false;
     }
-    if !whole::is_single(path) {
+    if !whole::is_single(rt, path) {
         return false;
     }
-    if !lock::is_taken(path, b"the file") {
+    if !lock::is_taken(rt, path, b"the file") {
         return false;
     }
-    let served = serve(path, libc::STDIN_FILENO);
-    lock::release(path);
+    let served = serve(rt, path, Source::Typed);
+    lock::release(rt, path);
     served
 }

@@ -4,7 +4,7 @@
 mod write;
 
 // Restart from these bytes, as a line: the answer, the place, standing. No table is empty before, so what is empty after was emptied.
-fn restarted(before: &[u8], n: usize, journal: &[u8]) {
+fn restarted(rt: &HostRuntime, before: &[u8], n: usize, journal: &[u8]) {
     let mut disk = [1u64; 512];
     let mut dated = [1u64; 512];
     let mut pending = [[1u64; 4]; 128];
@@ -33,28 +33,28 @@ fn restarted(before: &[u8], n: usize, journal: &[u8]) {
         started.heads,
     );
     let place = started.place;
-    prints::number(before, n as u64);
+    prints::number(rt, before, n as u64);
     let answer = started.answer;
-    prints::answered(answer);
-    prints::number(b", place ", place.at as u64);
+    prints::answered(rt, answer);
+    prints::number(rt, b", place ", place.at as u64);
     let figures = stood.figures;
-    prints::figures(figures);
-    prints::end();
+    prints::figures(rt, figures);
+    prints::end(rt);
 }
 
-fn cut(before: &[u8], journal: &[u8], n: usize) {
+fn cut(rt: &HostRuntime, before: &[u8], journal: &[u8], n: usize) {
     if n <= journal.len() {
-        restarted(before, n, &journal[..n]);
+        restarted(rt, before, n, &journal[..n]);
     }
 }
 
-fn cuts(journal: &[u8]) {
+fn cuts(rt: &HostRuntime, journal: &[u8]) {
     let mut n: usize = 0;
     while n < journal.len() {
-        cut(b"first ", journal, n);
+        cut(rt, b"first ", journal, n);
         n += 1;
     }
-    cut(b"first ", journal, n);
+    cut(rt, b"first ", journal, n);
 }
 
 fn more(b: u8) -> u8 {
@@ -62,55 +62,55 @@ fn more(b: u8) -> u8 {
 }
 
 // The byte is set back after.
-fn change(journal: &mut [u8], i: usize) {
+fn change(rt: &HostRuntime, journal: &mut [u8], i: usize) {
     if i < journal.len() {
         let b = journal[i];
         journal[i] = more(b);
-        restarted(b"byte ", i, journal);
+        restarted(rt, b"byte ", i, journal);
         journal[i] = b;
     }
 }
 
-fn changed(journal: &mut [u8]) {
+fn changed(rt: &HostRuntime, journal: &mut [u8]) {
     let mut i: usize = 0;
     while i < journal.len() {
-        change(journal, i);
+        change(rt, journal, i);
         i += 1;
     }
 }
 
-fn both(journal: &mut [u8], used: usize) {
+fn both(rt: &HostRuntime, journal: &mut [u8], used: usize) {
     if used <= journal.len() {
-        cuts(&journal[..used]);
-        changed(&mut journal[..used]);
+        cuts(rt, &journal[..used]);
+        changed(rt, &mut journal[..used]);
     }
 }
 
-fn small() {
+fn small(rt: &HostRuntime) {
     let mut journal = [0u8; 200];
-    let used = write::four(&mut journal);
-    both(&mut journal, used);
+    let used = write::four(rt, &mut journal);
+    both(rt, &mut journal, used);
 }
 
 // The night's item 13.
-fn night() {
+fn night(rt: &HostRuntime) {
     let mut journal = [0u8; 200];
-    write::one(&mut journal);
-    cut(b"item 13, first ", &journal, 22);
-    cut(b"item 13, first ", &journal, 0);
+    write::one(rt, &mut journal);
+    cut(rt, b"item 13, first ", &journal, 22);
+    cut(rt, b"item 13, first ", &journal, 0);
 }
 
 // Document 02, request [1]: a request is no record of a journal.
-fn request() {
+fn request(rt: &HostRuntime) {
     let journal = [
         1u8, 0, 17, 4, 0, 0, 0, 0, 0, 0, 0, 0, 0, 0, 0, 0, 0, 0, 2, 88,
     ];
-    cut(b"request, first ", &journal, 19);
-    cut(b"request, first ", &journal, 20);
+    cut(rt, b"request, first ", &journal, 19);
+    cut(rt, b"request, first ", &journal, 20);
 }
 
-fn main() {
-    small();
-    night();
-    request();
+fn main(rt: HostRuntime) {
+    small(&rt);
+    night(&rt);
+    request(&rt);
 }

@@ -14,15 +14,16 @@ fn none() -> Heads {
     }
 }
 
-fn told(before: &[u8], n: u64, done: Changed) {
-    prints::number(before, n);
+fn told(rt: &HostRuntime, before: &[u8], n: u64, done: Changed) {
+    prints::number(rt, before, n);
     let answer = done.answer;
-    prints::answered(answer);
-    prints::end();
+    prints::answered(rt, answer);
+    prints::end(rt);
 }
 
 // Commit 100 of 0 = 7 and 17 = 3 on a fresh store, and gossip 0, 110, {105}.
 fn commit_and_hear(
+    rt: &HostRuntime,
     disk: &mut Disk,
     dated: &mut Disk,
     pending: &mut PendingTable,
@@ -47,7 +48,7 @@ fn commit_and_hear(
         &[0, 17],
         &[7, 3],
     );
-    told(b"commit ", 100, a);
+    told(rt, b"commit ", 100, a);
     let b = changes::gossiping::gossip(
         disk,
         dated,
@@ -63,12 +64,13 @@ fn commit_and_hear(
         110,
         &[105],
     );
-    told(b"gossip to ", 110, b);
+    told(rt, b"gossip to ", 110, b);
     b
 }
 
 // Flush 0, and commit 120 of 0 = 9, from where the last call left.
 fn flush_and_commit(
+    rt: &HostRuntime,
     disk: &mut Disk,
     dated: &mut Disk,
     pending: &mut PendingTable,
@@ -82,7 +84,7 @@ fn flush_and_commit(
     let c = changes::flushing::flush(
         disk, dated, pending, past, snapshots, copies, copied, left.heads, journal, left.place, 0,
     );
-    told(b"flush ", 0, c);
+    told(rt, b"flush ", 0, c);
     let d = changes::committing::commit(
         disk,
         dated,
@@ -98,13 +100,13 @@ fn flush_and_commit(
         &[0],
         &[9],
     );
-    told(b"commit ", 120, d);
+    told(rt, b"commit ", 120, d);
     let place = d.place;
     place.at
 }
 
 // All three kinds of record, four of them.
-pub fn four(journal: &mut [u8]) -> usize {
+pub fn four(rt: &HostRuntime, journal: &mut [u8]) -> usize {
     let mut disk = [0u64; 512];
     let mut dated = [0u64; 512];
     let mut pending = [[0u64; 4]; 128];
@@ -113,6 +115,7 @@ pub fn four(journal: &mut [u8]) -> usize {
     let mut copies = [[0u64; 2]; 128];
     let mut copied = [0u64; 2048];
     let left = commit_and_hear(
+        rt,
         &mut disk,
         &mut dated,
         &mut pending,
@@ -123,6 +126,7 @@ pub fn four(journal: &mut [u8]) -> usize {
         journal,
     );
     flush_and_commit(
+        rt,
         &mut disk,
         &mut dated,
         &mut pending,
@@ -136,7 +140,7 @@ pub fn four(journal: &mut [u8]) -> usize {
 }
 
 // The night's item 1: commit 100 of 0 = 7.
-pub fn one(journal: &mut [u8]) {
+pub fn one(rt: &HostRuntime, journal: &mut [u8]) {
     let disk = [0u64; 512];
     let dated = [0u64; 512];
     let mut pending = [[0u64; 4]; 128];
@@ -159,5 +163,5 @@ pub fn one(journal: &mut [u8]) {
         &[0],
         &[7],
     );
-    told(b"item 1, commit ", 100, done);
+    told(rt, b"item 1, commit ", 100, done);
 }

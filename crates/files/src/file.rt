@@ -1,61 +1,95 @@
-// The journal's file. The descriptor -1 stands for a journal in memory, which needs none of this.
+// The journal's file. No file stands for a journal in memory, which needs none of this.
 ghost use Rattle.std.specs.Prelude.{◌+◌, ◌≤◌, length};
 ghost use Rattle.io.specs.Counts.{IsPrefixLen};
 
-use crate::{identity, paths, torn, trouble};
+use crate::{identity, names, paths, torn, trouble};
+use std::fs::File;
+use std::io::{Result, Seek, SeekFrom, Write};
+use std::os::unix::fs::FileExt;
 
-// A place as C counts it. No place in a journal lies beyond these.
-fn offset(at: usize) -> i64 {
-    if at <= 65536 { at as i64 } else { -1 }
+// A place as the system counts it. No place in a journal lies beyond these, and there is none of the last number.
+fn offset(at: usize) -> u64 {
+    if at <= 65536 {
+        at as u64
+    } else {
+        18446744073709551615
+    }
 }
 
-// Waits until the file's name is in its folder for good.
-pub fn is_named(path: &[u8]) -> bool {
+// Waits until the file's name is in its folder for good. If it can't, there was a word on standard error.
+pub fn is_named(rt: &HostRuntime, path: &[u8]) -> bool {
     let mut name = io::buffer();
     let n = paths::folder(path, &mut name);
-    let folder = os::open_read(&name[..n]);
-    if folder < 0 {
-        return false;
+    match names::open_read(rt, &name[..n]) {
+        Ok(folder) => is_flushed(rt, path, &folder),
+        Err(error) => {
+            trouble::fail(rt, path, &error);
+            false
+        }
     }
-    let done = libc::fsync(folder);
-    libc::close(folder);
-    done == 0
+}
+
+// All that is written to the file, or its folder, is there for good.
+pub fn is_flushed(rt: &HostRuntime, path: &[u8], file: &File) -> bool {
+    match file.sync_all() {
+        Ok(()) => true,
+        Err(error) => {
+            trouble::fail(rt, path, &error);
+            false
+        }
+    }
+}
+
+// The file's bytes are there for good.
+fn is_synced(rt: &HostRuntime, path: &[u8], file: &File) -> bool {
+    match file.sync_data() {
+        Ok(()) => true,
+        Err(error) => {
+            trouble::fail(rt, path, &error);
+            false
+        }
+    }
+}
+
+// The file of this name, opened to be read and written.
+fn updated(rt: &HostRuntime, path: &[u8]) -> Option<File> {
+    match names::open_update(rt, path) {
+        Ok(file) => Some(file),
+        Err(error) => {
+            trouble::fail(rt, path, &error);
+            None
+        }
+    }
 }
 
 // A new file, opened.
-fn made(path: &[u8]) -> i32 {
-    let new = os::create(path);
-    if new < 0 {
-        os::fail(path);
-        return -1;
+fn made(rt: &HostRuntime, path: &[u8]) -> Option<File> {
+    if let Err(error) = names::create(rt, path) {
+        trouble::fail(rt, path, &error);
+        return None;
     }
-    libc::close(new);
-    if !is_named(path) {
-        os::fail(path);
-        return -1;
+    if !is_named(rt, path) {
+        return None;
     }
-    let file = os::open_update(path);
-    if file < 0 {
-        os::fail(path);
-    }
-    file
+    updated(rt, path)
 }
 
-// The descriptor, or a negative number after a word on standard error.
-pub fn opened(path: &[u8]) -> i32 {
-    let file = os::open_update(path);
-    if 0 <= file {
-        return file;
+// The file, or none after a word on standard error.
+pub fn opened(rt: &HostRuntime, path: &[u8]) -> Option<File> {
+    match names::open_update(rt, path) {
+        Ok(file) => Some(file),
+        Err(error) => {
+            if names::is_absence(&error) {
+                return made(rt, path);
+            }
+            trouble::fail(rt, path, &error);
+            None
+        }
     }
-    if os::errno() != libc::ENOENT {
-        os::fail(path);
-        return -1;
-    }
-    made(path)
 }
 
 // The number of bytes read, as far as the journal's room goes.
-#[derive(Drop)]
+#[derive(Clone, Copy)]
 pub enum Whole {
     Bytes(usize),
     Failed,
@@ -71,67 +105,74 @@ pub fn count(whole: Whole, bytes: &[u8]) -> usize
     }
 }
 
-fn read_behind(file: i32, journal: &mut [u8], at: usize) -> isize
+fn read_behind(file: &File, journal: &mut [u8], at: usize) -> Result<usize>
     requires { at ≤ length journal.old }
 {
-    libc::pread(file, &mut journal[at..], offset(at))
+    file.read_at(&mut journal[at..], offset(at))
 }
 
-pub fn read(path: &[u8], file: i32, journal: &mut [u8]) -> Whole {
-    if file < 0 {
+pub fn read(rt: &HostRuntime, path: &[u8], file: Option<&File>, journal: &mut [u8]) -> Whole {
+    let Some(file) = file else {
         return Whole::Bytes(0);
-    }
+    };
     let mut n: usize = 0;
     while n < journal.len() {
-        let got = read_behind(file, journal, n);
-        if got < 0 {
-            os::fail(path);
-            return Whole::Failed;
+        match read_behind(file, journal, n) {
+            Err(error) => {
+                trouble::fail(rt, path, &error);
+                return Whole::Failed;
+            }
+            Ok(got) => {
+                let more = paths::within(got, &journal[n..]);
+                if more == 0 {
+                    return Whole::Bytes(n);
+                }
+                n += more;
+            }
         }
-        let more = io::count(got, &journal[n..]);
-        if more == 0 {
-            return Whole::Bytes(n);
-        }
-        n += more;
     }
     Whole::Bytes(n)
 }
 
 // Cuts the file to its first bytes, for good.
-fn is_cut(path: &[u8], file: i32, to: usize) -> bool {
-    if libc::ftruncate(file, offset(to)) == 0 && libc::fdatasync(file) == 0 {
-        return true;
+fn is_cut(rt: &HostRuntime, path: &[u8], file: &File, to: usize) -> bool {
+    match file.set_len(offset(to)) {
+        Ok(()) => is_synced(rt, path, file),
+        Err(error) => {
+            trouble::fail(rt, path, &error);
+            false
+        }
     }
-    os::fail(path);
-    false
 }
 
 // The file holds the bytes that were read up to a place, for good. Those behind it are kept elsewhere before they are cut.
-pub fn is_settled(path: &[u8], file: i32, read: &[u8], to: usize) -> bool {
+pub fn is_settled(rt: &HostRuntime, path: &[u8], file: &File, read: &[u8], to: usize) -> bool {
     if to < read.len() {
-        return torn::is_kept(path, &read[to..]) && is_cut(path, file, to);
+        return torn::is_kept(rt, path, &read[to..]) && is_cut(rt, path, file, to);
     }
-    if libc::fdatasync(file) == 0 {
-        return true;
-    }
-    os::fail(path);
-    false
+    is_synced(rt, path, file)
 }
 
-fn write_from(file: i32, bytes: &[u8], at: usize) -> usize
+// How many bytes were written: none where it failed, after a word on standard error.
+fn write_from(rt: &HostRuntime, path: &[u8], file: &File, bytes: &[u8], at: usize) -> usize
     requires { at ≤ length bytes.now }
     ensures { at + result ≤ length bytes.now }
 {
     let rest = &bytes[at..];
-    let put = libc::pwrite(file, rest, offset(at));
-    io::count(put, rest)
+    match file.write_at(rest, offset(at)) {
+        Ok(put) => paths::within(put, rest),
+        Err(error) => {
+            trouble::fail(rt, path, &error);
+            0
+        }
+    }
 }
 
 // Writes the bytes from a place on to the same place in the file.
-fn is_written(file: i32, bytes: &[u8], from: usize) -> bool {
+fn is_written(rt: &HostRuntime, path: &[u8], file: &File, bytes: &[u8], from: usize) -> bool {
     let mut at = from;
     while at < bytes.len() {
-        let put = write_from(file, bytes, at);
+        let put = write_from(rt, path, file, bytes, at);
         if put == 0 {
             return false;
         }
@@ -140,113 +181,125 @@ fn is_written(file: i32, bytes: &[u8], from: usize) -> bool {
     true
 }
 
-pub fn say_changed(path: &[u8]) {
-    trouble::say(path, b"another program has changed it");
+pub fn say_changed(rt: &HostRuntime, path: &[u8]) {
+    trouble::say(rt, path, b"another program has changed it");
+}
+
+// Where the file ends.
+fn end_of(file: &File) -> Result<u64> {
+    let mut handle = file;
+    handle.seek(SeekFrom::End(0))
 }
 
 // The file ends where the journal did, so that nobody else has written it.
-fn is_ours(path: &[u8], file: i32, end: usize) -> bool {
-    let found = libc::lseek(file, 0, libc::SEEK_END);
-    if found < 0 {
-        os::fail(path);
-        return false;
+fn is_ours(rt: &HostRuntime, path: &[u8], file: &File, end: usize) -> bool {
+    match end_of(file) {
+        Err(error) => {
+            trouble::fail(rt, path, &error);
+            false
+        }
+        Ok(found) => {
+            let same = found == offset(end);
+            if !same {
+                say_changed(rt, path);
+            }
+            same
+        }
     }
-    if found != offset(end) {
-        say_changed(path);
-        return false;
-    }
-    true
 }
 
-pub fn say_moved(path: &[u8]) {
+pub fn say_moved(rt: &HostRuntime, path: &[u8]) {
     trouble::say(
+        rt,
         path,
         b"the open file is no longer at this name; nothing more is written",
     );
 }
 
 // The name still leads to the open file. Records in a file without a name would be lost.
-fn is_there(path: &[u8], file: i32) -> bool {
+fn is_there(rt: &HostRuntime, path: &[u8], file: &File) -> bool {
     let held = identity::of_open(file);
-    let named = identity::of_name(path);
+    let named = identity::of_name(rt, path);
     if identity::is_same(held, named) {
         return true;
     }
-    say_moved(path);
+    say_moved(rt, path);
     false
 }
 
 // The journal's bytes from old to new are in the file for good. Where they aren't, the file is cut back to what it was.
-pub fn is_saved(path: &[u8], file: i32, journal: &[u8], old: usize, new: usize) -> bool {
-    if file < 0 {
+pub fn is_saved(
+    rt: &HostRuntime,
+    path: &[u8],
+    file: Option<&File>,
+    journal: &[u8],
+    old: usize,
+    new: usize,
+) -> bool {
+    let Some(file) = file else {
         return true;
-    }
-    if !is_there(path, file) {
+    };
+    if !is_there(rt, path, file) {
         return false;
     }
-    if !is_ours(path, file, old) {
+    if !is_ours(rt, path, file, old) {
         return false;
     }
     let n = paths::within(new, journal);
-    if is_written(file, &journal[..n], old) && libc::fdatasync(file) == 0 {
+    if is_written(rt, path, file, &journal[..n], old) && is_synced(rt, path, file) {
         return true;
     }
-    os::fail(path);
-    libc::ftruncate(file, offset(old));
+    let _ = file.set_len(offset(old));
     false
 }
 
 // The bytes go into a file that was just made, for good, and it is closed.
-pub fn is_filled(name: &[u8], file: i32, bytes: &[u8]) -> bool {
-    let done = io::write_all(file, bytes) && libc::fsync(file) == 0;
-    if !done {
-        os::fail(name);
+pub fn is_filled(rt: &HostRuntime, name: &[u8], mut file: File, bytes: &[u8]) -> bool {
+    match file.write_all(bytes) {
+        Ok(()) => is_flushed(rt, name, &file),
+        Err(error) => {
+            trouble::fail(rt, name, &error);
+            false
+        }
     }
-    libc::close(file);
-    done
 }
 
-// What came of a new file in the place of the old one, which is kept as JOURNAL.old.
+// What came of a new file in the place of the old one, which is kept as JOURNAL.old. In memory there is none.
 #[derive(Drop)]
 pub enum Renewal {
-    File(i32),
+    File(Option<File>),
     Barred,
     Linked,
     Failed,
 }
 
 // Nothing has this name, not even a link that leads nowhere.
-pub fn is_free(name: &[u8]) -> bool {
-    let there = identity::of_entry(name);
-    if there.found {
-        return false;
-    }
-    os::errno() == libc::ENOENT
+pub fn is_free(rt: &HostRuntime, name: &[u8]) -> bool {
+    identity::of_entry(rt, name).absent
 }
 
-pub fn renew(path: &[u8], file: i32) -> Renewal {
-    if file < 0 {
-        return Renewal::File(file);
-    }
-    if identity::is_link(identity::of_entry(path)) {
+pub fn renew(rt: &HostRuntime, path: &[u8], file: Option<&File>) -> Renewal {
+    let Some(file) = file else {
+        return Renewal::File(None);
+    };
+    if identity::is_link(identity::of_entry(rt, path)) {
         return Renewal::Linked;
     }
-    if !is_there(path, file) {
+    if !is_there(rt, path, file) {
         return Renewal::Failed;
     }
     let mut name = io::buffer();
     let n = paths::joined(path, b".old", &mut name);
-    if !is_free(&name[..n]) {
+    if !is_free(rt, &name[..n]) {
         return Renewal::Barred;
     }
-    if os::rename(path, &name[..n]) != 0 {
-        os::fail(path);
+    if let Err(error) = names::rename(rt, path, &name[..n]) {
+        trouble::fail(rt, path, &error);
         return Renewal::Failed;
     }
-    let next = made(path);
-    if next < 0 {
+    let next = made(rt, path);
+    if next.is_none() {
         return Renewal::Failed;
     }
-    libc::close(file);
     Renewal::File(next)
 }

@@ -2,22 +2,22 @@
 // machine that both are of. A number is used again, by another start or in another run; the three together aren't.
 ghost use Rattle.io.specs.Counts.{IsPrefixLen};
 
-use crate::paths;
-
-// No such process.
-const ESRCH: i32 = 3;
+use crate::{identity, names, paths};
+use std::io::Read;
+use std::os::unix::process::parent_id;
+use std::process;
 
 // The bytes of a small file, as many as there is room for.
-pub fn text_of(name: &[u8], out: &mut [u8]) -> usize
+pub fn text_of(rt: &HostRuntime, name: &[u8], out: &mut [u8]) -> usize
     ensures { IsPrefixLen result out.new }
 {
-    let file = os::open_read(name);
-    if file < 0 {
+    let Ok(mut file) = names::open_read(rt, name) else {
         return paths::within(0, out);
+    };
+    match file.read(out) {
+        Ok(got) => paths::within(got, out),
+        Err(_) => paths::within(0, out),
     }
-    let got = libc::read(file, out);
-    libc::close(file);
-    io::count(got, out)
 }
 
 // Behind the program's name in what /proc tells of a process: the name ends with the last `)`, and may hold any byte itself.
@@ -70,18 +70,18 @@ fn start_in(rest: &[u8]) -> u64 {
     paths::number(&rest[at..])
 }
 
-fn append_boot(out: &mut [u8], at: usize) -> usize
+fn append_boot(rt: &HostRuntime, out: &mut [u8], at: usize) -> usize
     ensures { IsPrefixLen result out.new }
 {
     let mut text = [0u8; 64];
-    let n = text_of(b"/proc/sys/kernel/random/boot_id", &mut text);
+    let n = text_of(rt, b"/proc/sys/kernel/random/boot_id", &mut text);
     let told = &text[..n];
     let k = paths::within(36, told);
     paths::append(out, at, &told[..k])
 }
 
 // The line of a process of which the system tells this; none where it is dead.
-fn line_by(process: u64, told: &[u8], out: &mut [u8]) -> usize
+fn line_by(rt: &HostRuntime, process: u64, told: &[u8], out: &mut [u8]) -> usize
     ensures { IsPrefixLen result out.new }
 {
     let from = behind_name(told);
@@ -94,57 +94,65 @@ fn line_by(process: u64, told: &[u8], out: &mut [u8]) -> usize
     let b = paths::append(out, a, b" ");
     let c = paths::append_number(out, b, start);
     let d = paths::append(out, c, b" ");
-    let e = append_boot(out, d);
+    let e = append_boot(rt, out, d);
     paths::append(out, e, b"\n")
 }
 
 // What the system tells of a process: nothing where it is gone, hidden from us, or where there is no /proc.
-fn told_of(process: u64, out: &mut [u8]) -> usize
+fn told_of(rt: &HostRuntime, process: u64, out: &mut [u8]) -> usize
     ensures { IsPrefixLen result out.new }
 {
     let mut name = [0u8; 64];
     let a = paths::append(&mut name, 0, b"/proc/");
     let b = paths::append_number(&mut name, a, process);
     let c = paths::append(&mut name, b, b"/stat");
-    text_of(&name[..c], out)
+    text_of(rt, &name[..c], out)
 }
 
-fn own() -> u64 {
-    let process = libc::getpid();
-    if process < 0 { 0 } else { process as u64 }
+fn own(rt: &HostRuntime) -> u64 {
+    u64::from(process::id(rt.process()))
 }
 
 // The process that started this one, or 0.
-pub fn parent() -> u64 {
-    let process = libc::getppid();
-    if process < 0 { 0 } else { process as u64 }
+pub fn parent(rt: &HostRuntime) -> u64 {
+    u64::from(parent_id(rt.process()))
 }
 
 // Our own line. Without /proc it is the number alone.
-pub fn own_line(out: &mut [u8]) -> usize
+pub fn own_line(rt: &HostRuntime, out: &mut [u8]) -> usize
     ensures { IsPrefixLen result out.new }
 {
-    let process = own();
+    let process = own(rt);
     let mut told = io::buffer();
-    let n = told_of(process, &mut told);
+    let n = told_of(rt, process, &mut told);
     if 0 < n {
-        return line_by(process, &told[..n], out);
+        return line_by(rt, process, &told[..n], out);
     }
     let a = paths::append_number(out, 0, process);
     paths::append(out, a, b"\n")
 }
 
-fn exists(process: u64) -> bool {
+// Whether /proc shows a process, as a folder of its number.
+fn is_shown(rt: &HostRuntime, process: u64) -> bool {
+    let mut name = [0u8; 64];
+    let a = paths::append(&mut name, 0, b"/proc/");
+    let b = paths::append_number(&mut name, a, process);
+    !identity::of_name(rt, &name[..b]).absent
+}
+
+// One that /proc doesn't show may be there all the same, where not even the first process is shown: then there is no /proc, or it
+// hides what isn't ours.
+fn exists(rt: &HostRuntime, process: u64) -> bool {
     if process == 0 {
         return false;
     }
     if 2147483647 < process {
         return false;
     }
-    if 0 <= libc::getpgid(process as i32) {
+    if is_shown(rt, process) {
         return true;
     }
-    os::errno() != ESRCH
+    !is_shown(rt, 1)
 }
 
 // A line of the number alone is left from an earlier process if the number is our own.
@@ -154,20 +162,20 @@ fn is_bare(line: &[u8]) -> bool {
 
 // The process of this line is there. One of which nothing is told is judged by its number alone, and asked for last, since it may
 // have gone meanwhile.
-pub fn lives(line: &[u8]) -> bool {
+pub fn lives(rt: &HostRuntime, line: &[u8]) -> bool {
     let process = paths::number(line);
     let mut told = io::buffer();
-    let n = told_of(process, &mut told);
+    let n = told_of(rt, process, &mut told);
     if n == 0 {
-        return process != own() && exists(process);
+        return process != own(rt) && exists(rt, process);
     }
     let mut now = [0u8; 128];
-    let k = line_by(process, &told[..n], &mut now);
+    let k = line_by(rt, process, &told[..n], &mut now);
     if k == 0 {
         return false;
     }
     if is_bare(line) {
-        return process != own();
+        return process != own(rt);
     }
     paths::is_same(line, &now[..k])
 }

@@ -1,16 +1,27 @@
-// Which file a descriptor or a name leads to, as C tells it. Where C's call fails, no other comes after it, so errno is its.
-ghost use Rattle.libc.specs.Io.{Ended};
+// Which file is open, or which one a name leads to, as the system tells it.
+use crate::{names, told};
+use std::fs::{File, Metadata};
+use std::io::Result;
+use std::os::unix::fs::MetadataExt;
 
-use crate::told::Told;
-use crate::{paths, told};
-use libc::PATH_MAX;
-use libc::types::{stat, timespec};
+// A path that the system can be handed has fewer bytes, none of them 0.
+pub const PATH_MAX: usize = 4096;
 
-// Which file it is: its device and its number there; how many names it has; whose it is; and its mode, whose bits libc::S_IFMT say
-// what kind of thing it is. Where it isn't found, the numbers mean nothing.
-#[derive(Drop)]
+// The bits of a mode that say what kind of thing it is, and three of the kinds.
+const KIND: u32 = 0o170000;
+
+const FOLDER: u32 = 0o040000;
+
+const LINK: u32 = 0o120000;
+
+const PLAIN: u32 = 0o100000;
+
+// Which file it is: its device and its number there; how many names it has; whose it is; and its mode, whose bits KIND say what kind
+// of thing it is. Where it isn't found, the numbers mean nothing, and it is absent where the reason is that nothing has the name.
+#[derive(Clone, Copy)]
 pub struct Identity {
     pub found: bool,
+    pub absent: bool,
     pub device: u64,
     pub number: u64,
     pub names: u64,
@@ -19,10 +30,9 @@ pub struct Identity {
     pub mode: u32,
 }
 
-const LAST: usize = PATH_MAX - 1;
-
 const UNKNOWN: Identity = Identity {
     found: false,
+    absent: false,
     device: 0,
     number: 0,
     names: 0,
@@ -31,49 +41,45 @@ const UNKNOWN: Identity = Identity {
     mode: 0,
 };
 
-fn blank() -> stat {
-    let never = timespec {
-        tv_sec: 0,
-        tv_nsec: 0,
-    };
-    stat {
-        st_dev: 0,
-        st_ino: 0,
-        st_nlink: 0,
-        st_mode: 0,
-        st_uid: 0,
-        st_gid: 0,
-        __pad: 0,
-        st_rdev: 0,
-        st_size: 0,
-        st_blksize: 0,
-        st_blocks: 0,
-        st_atim: never,
-        st_mtim: never,
-        st_ctim: never,
-        __unused: [0, 0, 0],
+const ABSENT: Identity = Identity {
+    found: false,
+    absent: true,
+    device: 0,
+    number: 0,
+    names: 0,
+    owner: 0,
+    group: 0,
+    mode: 0,
+};
+
+fn seen(told: Result<Metadata>) -> Identity {
+    match told {
+        Ok(room) => Identity {
+            found: true,
+            absent: false,
+            device: room.dev(),
+            number: room.ino(),
+            names: room.nlink(),
+            owner: room.uid(),
+            group: room.gid(),
+            mode: room.mode(),
+        },
+        Err(error) => {
+            if names::is_absence(&error) {
+                ABSENT
+            } else {
+                UNKNOWN
+            }
+        }
     }
 }
 
-fn seen(told: Told) -> Identity {
-    let room = told.room;
-    Identity {
-        found: told.status == 0,
-        device: room.st_dev,
-        number: room.st_ino,
-        names: room.st_nlink,
-        owner: room.st_uid,
-        group: room.st_gid,
-        mode: room.st_mode,
-    }
+pub fn of_open(file: &File) -> Identity {
+    seen(told::of_open(file))
 }
 
-pub fn of_open(file: i32) -> Identity {
-    seen(told::of_open(file, blank()))
-}
-
-// Whether C can be handed all of it. Where it can't, C isn't called, and errno says nothing.
-fn is_path(path: &[u8]) -> bool {
+// Whether the system can be handed all of it. Where it can't, the system isn't called.
+pub fn is_path(path: &[u8]) -> bool {
     if path.len() >= PATH_MAX {
         return false;
     }
@@ -87,32 +93,20 @@ fn is_path(path: &[u8]) -> bool {
     true
 }
 
-// The path as C takes it: with a 0 behind it.
-fn ended(path: &[u8]) -> [u8; PATH_MAX]
-    ensures { Ended result }
-{
-    let mut out = io::buffer();
-    paths::append(&mut out, 0, path);
-    out[LAST] = 0;
-    out
-}
-
 // Of the file that the name leads to, through links.
-pub fn of_name(path: &[u8]) -> Identity {
+pub fn of_name(rt: &HostRuntime, path: &[u8]) -> Identity {
     if !is_path(path) {
         return UNKNOWN;
     }
-    let path = ended(path);
-    seen(told::of_name(&path, blank()))
+    seen(told::of_name(rt, path))
 }
 
 // Of the name's own entry: a link is a link.
-pub fn of_entry(path: &[u8]) -> Identity {
+pub fn of_entry(rt: &HostRuntime, path: &[u8]) -> Identity {
     if !is_path(path) {
         return UNKNOWN;
     }
-    let path = ended(path);
-    seen(told::of_entry(&path, blank()))
+    seen(told::of_entry(rt, path))
 }
 
 pub fn is_same(a: Identity, b: Identity) -> bool {
@@ -120,13 +114,13 @@ pub fn is_same(a: Identity, b: Identity) -> bool {
 }
 
 pub fn is_folder(a: Identity) -> bool {
-    a.found && a.mode & libc::S_IFMT == libc::S_IFDIR
+    a.found && a.mode & KIND == FOLDER
 }
 
 pub fn is_link(a: Identity) -> bool {
-    a.found && a.mode & libc::S_IFMT == libc::S_IFLNK
+    a.found && a.mode & KIND == LINK
 }
 
 pub fn is_plain(a: Identity) -> bool {
-    a.found && a.mode & libc::S_IFMT == libc::S_IFREG
+    a.found && a.mode & KIND == PLAIN
 }

@@ -6,6 +6,7 @@ pub mod fit;
 pub mod holder;
 pub mod identity;
 pub mod lock;
+pub mod names;
 pub mod paths;
 pub mod room;
 mod told;

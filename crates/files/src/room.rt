@@ -6,7 +6,7 @@ pub const MOST: usize = 65535;
 
 const MUCH: usize = 58981;
 
-pub fn tell(path: &[u8], before: usize, now: usize) {
+pub fn tell(rt: &HostRuntime, path: &[u8], before: usize, now: usize) {
     if MUCH < before {
         return;
     }
@@ -16,9 +16,9 @@ pub fn tell(path: &[u8], before: usize, now: usize) {
     if MOST < now {
         return;
     }
-    trouble::begin(path, b"over nine tenths full: ");
-    trouble::number(now as u64);
-    trouble::more(b" bytes used, ");
-    trouble::number((MOST - now) as u64);
-    trouble::end(b" left");
+    trouble::begin(rt, path, b"over nine tenths full: ");
+    trouble::number(rt, now as u64);
+    trouble::more(rt, b" bytes used, ");
+    trouble::number(rt, (MOST - now) as u64);
+    trouble::end(rt, b" left");
 }

@@ -1,40 +1,19 @@
-// What C tells of a file: the struct that it fills is lent to it for the call. The proofs are by hand.
-ghost use Rattle.libc.specs.Io.{Ended};
+// What the system tells of a file.
+use crate::names;
+use std::fs;
+use std::fs::{File, Metadata};
+use std::io::Result;
 
-use libc::PATH_MAX;
-use libc::types::stat;
-
-// What C answered, and what it left in the struct.
-#[derive(Drop)]
-pub struct Told {
-    pub status: i32,
-    pub room: stat,
+pub fn of_open(file: &File) -> Result<Metadata> {
+    file.metadata()
 }
 
-pub fn of_open(file: i32, mut room: stat) -> Told {
-    let status = libc::fstat(file, &mut room);
-    Told {
-        status: status,
-        room: room,
-    }
+pub fn of_name(rt: &HostRuntime, path: &[u8]) -> Result<Metadata> {
+    let name = names::text(path)?;
+    fs::metadata(rt, name)
 }
 
-pub fn of_name(path: &[u8; PATH_MAX], mut room: stat) -> Told
-    requires { Ended path.now }
-{
-    let status = libc::stat(path, &mut room);
-    Told {
-        status: status,
-        room: room,
-    }
-}
-
-pub fn of_entry(path: &[u8; PATH_MAX], mut room: stat) -> Told
-    requires { Ended path.now }
-{
-    let status = libc::lstat(path, &mut room);
-    Told {
-        status: status,
-        room: room,
-    }
+pub fn of_entry(rt: &HostRuntime, path: &[u8]) -> Result<Metadata> {
+    let name = names::text(path)?;
+    fs::symlink_metadata(rt, name)
 }

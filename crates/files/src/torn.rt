@@ -2,7 +2,7 @@
 // their own, JOURNAL.torn-N, before the journal is cut.
 ghost use Rattle.io.specs.Counts.{IsPrefixLen};
 
-use crate::{file, identity, paths, trouble};
+use crate::{file, identity, names, paths, trouble};
 
 // No journal has so many torn ends.
 const MOST: u64 = 1000000;
@@ -15,13 +15,13 @@ fn name_of(path: &[u8], number: u64, out: &mut [u8]) -> usize
 }
 
 // The first name from 1 on that nothing is found under, or none. Whether a file can be made there shows when it is made.
-fn free_name(path: &[u8], out: &mut [u8]) -> usize
+fn free_name(rt: &HostRuntime, path: &[u8], out: &mut [u8]) -> usize
     ensures { IsPrefixLen result out.new }
 {
     let mut number: u64 = 1;
     while number < MOST {
         let n = name_of(path, number, out);
-        let there = identity::of_entry(&out[..n]);
+        let there = identity::of_entry(rt, &out[..n]);
         if !there.found {
             return n;
         }
@@ -31,45 +31,45 @@ fn free_name(path: &[u8], out: &mut [u8]) -> usize
 }
 
 // The bytes are in a new file for good. Where they aren't, the file is gone again.
-fn is_written(name: &[u8], bytes: &[u8]) -> bool {
-    let file = os::create(name);
-    if file < 0 {
-        os::fail(name);
-        return false;
+fn is_written(rt: &HostRuntime, name: &[u8], bytes: &[u8]) -> bool {
+    match names::create(rt, name) {
+        Err(error) => {
+            trouble::fail(rt, name, &error);
+            false
+        }
+        Ok(file) => {
+            let done = file::is_filled(rt, name, file, bytes) && file::is_named(rt, name);
+            if !done {
+                let _ = names::unlink(rt, name);
+            }
+            done
+        }
     }
-    let done = file::is_filled(name, file, bytes);
-    if done && file::is_named(name) {
-        return true;
-    }
-    if done {
-        os::fail(name);
-    }
-    os::unlink(name);
-    false
 }
 
-fn say_kept(path: &[u8], count: u64, name: &[u8]) {
-    trouble::begin(path, b"");
-    trouble::number(count);
-    trouble::more(b" bytes behind the last whole record are kept in ");
-    trouble::end(name);
+fn say_kept(rt: &HostRuntime, path: &[u8], count: u64, name: &[u8]) {
+    trouble::begin(rt, path, b"");
+    trouble::number(rt, count);
+    trouble::more(rt, b" bytes behind the last whole record are kept in ");
+    trouble::end(rt, name);
 }
 
 // If not, there was a word on standard error, and the journal is not to be cut.
-pub fn is_kept(path: &[u8], bytes: &[u8]) -> bool {
+pub fn is_kept(rt: &HostRuntime, path: &[u8], bytes: &[u8]) -> bool {
     let mut room = io::buffer();
-    let n = free_name(path, &mut room);
+    let n = free_name(rt, path, &mut room);
     if n == 0 {
         trouble::say(
+            rt,
             path,
             b"no name is free for the bytes behind the last whole record",
         );
         return false;
     }
     let name = &room[..n];
-    if !is_written(name, bytes) {
+    if !is_written(rt, name, bytes) {
         return false;
     }
-    say_kept(path, bytes.len() as u64, name);
+    say_kept(rt, path, bytes.len() as u64, name);
     true
 }

@@ -1,33 +1,85 @@
 // What is wrong with a file, on standard error.
-use libc::STDERR_FILENO;
+ghost use Rattle.io.specs.Counts.{IsPrefixLen};
 
-pub fn more(what: &[u8]) {
-    io::write_all(STDERR_FILENO, what);
+use crate::paths;
+use std::io::{Error, Write};
+
+// The longest text of an error.
+const ROOM: usize = 256;
+
+pub fn more(rt: &HostRuntime, what: &[u8]) {
+    let _ = Print::write_all(&rt.stderr(), what);
 }
 
 // The name, and how a sentence about it begins.
-pub fn begin(name: &[u8], what: &[u8]) {
-    more(name);
-    more(b": ");
-    more(what);
+pub fn begin(rt: &HostRuntime, name: &[u8], what: &[u8]) {
+    more(rt, name);
+    more(rt, b": ");
+    more(rt, what);
 }
 
-pub fn number(n: u64) {
-    io::print_decimal(STDERR_FILENO, n);
+pub fn number(rt: &HostRuntime, n: u64) {
+    let mut digits = [0u8; 20];
+    let k = io::decimal(n, &mut digits);
+    more(rt, &digits[..k]);
 }
 
-pub fn end(what: &[u8]) {
-    more(what);
-    more(b"\n");
+pub fn end(rt: &HostRuntime, what: &[u8]) {
+    more(rt, what);
+    more(rt, b"\n");
 }
 
-pub fn say(name: &[u8], what: &[u8]) {
-    begin(name, what);
-    end(b"");
+pub fn say(rt: &HostRuntime, name: &[u8], what: &[u8]) {
+    begin(rt, name, what);
+    end(rt, b"");
 }
 
-pub fn say_of(name: &[u8], process: u64, what: &[u8]) {
-    begin(name, b"process ");
-    number(process);
-    end(what);
+pub fn say_of(rt: &HostRuntime, name: &[u8], process: u64, what: &[u8]) {
+    begin(rt, name, b"process ");
+    number(rt, process);
+    end(rt, what);
+}
+
+// The error as std tells it, at the front of out: how many bytes.
+fn told(error: &Error, out: &mut [u8; ROOM]) -> usize
+    ensures { IsPrefixLen result out.new }
+{
+    let mut rest: &mut [u8] = out;
+    let _ = write!(rest, "{error}");
+    let left = rest.len();
+    paths::within(ROOM.saturating_sub(left), out)
+}
+
+// How many bytes stand before the last bracket that opens, and all of them where there is none.
+fn before_bracket(text: &[u8]) -> usize
+    ensures { IsPrefixLen result text.now }
+{
+    let mut at = text.len();
+    while 0 < at {
+        at -= 1;
+        if text[at] == b'(' {
+            return at;
+        }
+    }
+    text.len()
+}
+
+// The error's text: of one that the system told, its own words, without the number that std puts behind them.
+fn words(error: &Error, text: &[u8]) -> usize
+    ensures { IsPrefixLen result text.now }
+{
+    if error.raw_os_error().is_none() {
+        return paths::within(text.len(), text);
+    }
+    paths::within(before_bracket(text).saturating_sub(1), text)
+}
+
+// A name, and what the system or std says of a call that failed.
+pub fn fail(rt: &HostRuntime, name: &[u8], error: &Error) {
+    let mut text = [0u8; ROOM];
+    let n = told(error, &mut text);
+    let told = &text[..n];
+    let k = words(error, told);
+    begin(rt, name, &told[..k]);
+    end(rt, b"");
 }

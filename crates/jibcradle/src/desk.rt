@@ -8,6 +8,7 @@ use lines::Call;
 use model::Answer;
 use reads::Knowledge;
 use restart::Started;
+use std::fs::File;
 use tables::{Copied, CopyTable, Disk, Heads, PastTable, PendingTable, Snapshots};
 use terminal::{entries, hex};
 
@@ -16,13 +17,13 @@ const REQUEST: usize = 19;
 
 const CURR: usize = 11;
 
-// What stands between two calls, the tables aside: the journal's file, or -1 in memory, whether another call is taken, and whether
+// What stands between two calls, the tables aside: the journal's file, or none in memory, whether another call is taken, and whether
 // all was served so far.
 #[derive(Drop)]
 pub struct Desk {
     pub heads: Heads,
     pub place: Place,
-    pub file: i32,
+    pub file: Option<File>,
     pub going: bool,
     pub served: bool,
 }
@@ -130,19 +131,19 @@ fn change(
 }
 
 // A change that was made is answered once its record is in the file.
-fn settled(path: &[u8], journal: &[u8], desk: Desk, done: Changed) -> Desk {
+fn settled(rt: &HostRuntime, path: &[u8], journal: &[u8], desk: Desk, done: Changed) -> Desk {
     let old = desk.place;
     let new = done.place;
     let answer = done.answer;
     if answer.code() == 0 {
-        if !file::is_saved(path, desk.file, journal, old.at, new.at) {
+        if !file::is_saved(rt, path, desk.file.as_ref(), journal, old.at, new.at) {
             return desk.after(false);
         }
     }
     let heads = done.heads;
-    let given = terminal::say::answer(answer);
-    if 0 <= desk.file {
-        room::tell(path, old.at, new.at);
+    let given = terminal::say::answer(rt, answer);
+    if desk.file.is_some() {
+        room::tell(rt, path, old.at, new.at);
     }
     Desk {
         heads,
@@ -154,15 +155,16 @@ fn settled(path: &[u8], journal: &[u8], desk: Desk, done: Changed) -> Desk {
 }
 
 // What can be read: the horizon, the last commit, the known snapshots.
-fn show_known(known: Knowledge) -> bool {
+fn show_known(rt: &HostRuntime, known: Knowledge) -> bool {
     let answer = known.answer;
     let stamps = known.stamps;
     let n = entries(known.count as usize, &stamps);
-    terminal::say::known(answer, known.horizon, known.last, &stamps[..n])
+    terminal::say::known(rt, answer, known.horizon, known.last, &stamps[..n])
 }
 
 // The three reads, ask, known, and standing. False where the answer could not be given.
 fn show(
+    rt: &HostRuntime,
     disk: &Disk,
     dated: &Disk,
     pending: &PendingTable,
@@ -181,7 +183,7 @@ fn show(
             let answer = reads::snapshot_read(
                 disk, dated, pending, past, snapshots, copies, copied, h, t, p, &mut words,
             );
-            say::page(answer, &words)
+            say::page(rt, answer, &words)
         }
         Call::Clock(tick, page) => {
             let t = tick;
@@ -189,14 +191,14 @@ fn show(
             let answer = reads::clock_read(
                 disk, dated, pending, past, snapshots, copies, copied, h, t, p, &mut words,
             );
-            say::page(answer, &words)
+            say::page(rt, answer, &words)
         }
         Call::Now(page) => {
             let p = page;
             let answer = reads::current_read(
                 disk, dated, pending, past, snapshots, copies, copied, h, p, &mut words,
             );
-            say::page(answer, &words)
+            say::page(rt, answer, &words)
         }
         Call::Ask(curr) => {
             let to = curr;
@@ -214,17 +216,17 @@ fn show(
                 &mut request,
             );
             let n = terminal::say::written(answer, &request);
-            terminal::say::bytes(answer, &request[..n])
+            terminal::say::bytes(rt, answer, &request[..n])
         }
         Call::Known => {
             let known = reads::known(disk, dated, pending, past, snapshots, copies, copied, h);
-            show_known(known)
+            show_known(rt, known)
         }
         _ => {
             let stood = reads::standing(disk, dated, pending, past, snapshots, copies, copied, h);
             let answer = stood.answer;
             let figures = stood.figures;
-            say::standing(answer, figures)
+            say::standing(rt, answer, figures)
         }
     }
 }
@@ -239,6 +241,7 @@ fn curr_of(message: &[u8]) -> u64 {
 
 // A message that a coordinator wrote. One that starts beyond the horizon is answered with the request for what lies between.
 fn heard(
+    rt: &HostRuntime,
     disk: &Disk,
     dated: &Disk,
     pending: &PendingTable,
@@ -262,7 +265,7 @@ fn heard(
     );
     let answer = done.answer;
     let Answer::Gap(_) = answer else {
-        return settled(path, journal, desk, done);
+        return settled(rt, path, journal, desk, done);
     };
     let to = curr_of(message);
     let mut request = [0u8; REQUEST];
@@ -279,7 +282,7 @@ fn heard(
         &mut request,
     );
     let k = terminal::say::written(asked, &request);
-    let said = terminal::say::bytes(answer, &request[..k]);
+    let said = terminal::say::bytes(rt, answer, &request[..k]);
     desk.after(said)
 }
 
@@ -291,25 +294,25 @@ enum Cut {
 }
 
 // Only a journal in memory is cut, to no more bytes than it has.
-fn cut_to(desk: Desk, to: usize) -> Cut {
+fn cut_to(rt: &HostRuntime, desk: &Desk, to: usize) -> Cut {
     let used = desk.place;
-    if 0 <= desk.file {
-        let said = terminal::say::text(b"? cut is for a journal in memory\n");
+    if desk.file.is_some() {
+        let said = terminal::say::text(rt, b"? cut is for a journal in memory\n");
         return Cut::Refused(said);
     }
     if used.at < to {
-        let said = say::refused_beyond(used.at as u64);
+        let said = say::refused_beyond(rt, used.at as u64);
         return Cut::Refused(said);
     }
     Cut::To(to)
 }
 
 // A store that was started anew is answered.
-fn renewed(started: Started, file: i32) -> Desk {
+fn renewed(rt: &HostRuntime, started: Started, file: Option<File>) -> Desk {
     let heads = started.heads;
     let place = started.place;
     let answer = started.answer;
-    let given = terminal::say::answer(answer);
+    let given = terminal::say::answer(rt, answer);
     Desk {
         heads,
         place,
@@ -321,6 +324,7 @@ fn renewed(started: Started, file: i32) -> Desk {
 
 // An empty store. The journal's file is kept, as JOURNAL.old.
 fn fresh(
+    rt: &HostRuntime,
     disk: &mut Disk,
     dated: &mut Disk,
     pending: &mut PendingTable,
@@ -331,19 +335,19 @@ fn fresh(
     path: &[u8],
     desk: Desk,
 ) -> Desk {
-    let renewal = file::renew(path, desk.file);
+    let renewal = file::renew(rt, path, desk.file.as_ref());
     match renewal {
         Renewal::File(next) => {
-            let file = next;
             let started = restart::fresh(disk, dated, pending, past, snapshots, copies, copied);
-            renewed(started, file)
+            renewed(rt, started, next)
         }
         Renewal::Barred => {
-            let said = terminal::say::refused(path, b".old is in the way");
+            let said = terminal::say::refused(rt, path, b".old is in the way");
             desk.after(said)
         }
         Renewal::Linked => {
             let said = terminal::say::refused(
+                rt,
                 path,
                 b" is a link; fresh works under the file's own name",
             );
@@ -355,6 +359,7 @@ fn fresh(
 
 // A store from the first bytes of a journal in memory.
 fn cut_back(
+    rt: &HostRuntime,
     disk: &mut Disk,
     dated: &mut Disk,
     pending: &mut PendingTable,
@@ -366,7 +371,7 @@ fn cut_back(
     desk: Desk,
     count: usize,
 ) -> Desk {
-    let cut = cut_to(desk, count);
+    let cut = cut_to(rt, &desk, count);
     match cut {
         Cut::To(to) => {
             let n = paths::within(to, journal);
@@ -374,7 +379,7 @@ fn cut_back(
             let started = restart::restart(
                 disk, dated, pending, past, snapshots, copies, copied, bytes,
             );
-            renewed(started, desk.file)
+            renewed(rt, started, desk.file)
         }
         Cut::Refused(said) => {
             let going = said;
@@ -385,6 +390,7 @@ fn cut_back(
 
 // The line of this number. One without a call is passed over.
 pub fn served(
+    rt: &HostRuntime,
     disk: &mut Disk,
     dated: &mut Disk,
     pending: &mut PendingTable,
@@ -404,23 +410,23 @@ pub fn served(
     match call {
         Call::Blank => desk,
         Call::Help(topic) => {
-            let said = help::print(topic);
+            let said = help::print(rt, topic);
             desk.after(said)
         }
         Call::Quit => desk.ended(),
         Call::Wrong(fault, column) => {
             let f = fault;
             let c = column;
-            let said = terminal::say::wrong(f, number, c);
+            let said = terminal::say::wrong(rt, f, number, c);
             desk.after(said)
         }
         Call::Fresh => fresh(
-            disk, dated, pending, past, snapshots, copies, copied, path, desk,
+            rt, disk, dated, pending, past, snapshots, copies, copied, path, desk,
         ),
         Call::Cut(count) => {
             let to = count as usize;
             cut_back(
-                disk, dated, pending, past, snapshots, copies, copied, journal, desk, to,
+                rt, disk, dated, pending, past, snapshots, copies, copied, journal, desk, to,
             )
         }
         Call::Hear(begin, end) => {
@@ -429,7 +435,7 @@ pub fn served(
             let mut message = [0u8; lines::hex::ROOM];
             let count = hex::bytes_in(line, from, to, &mut message);
             heard(
-                disk, dated, pending, past, snapshots, copies, copied, journal, path, desk,
+                rt, disk, dated, pending, past, snapshots, copies, copied, journal, path, desk,
                 &message, count,
             )
         }
@@ -440,7 +446,7 @@ pub fn served(
         | Call::Known
         | Call::Standing => {
             let said = show(
-                disk, dated, pending, past, snapshots, copies, copied, desk.heads, call,
+                rt, disk, dated, pending, past, snapshots, copies, copied, desk.heads, call,
             );
             desk.after(said)
         }
@@ -449,7 +455,7 @@ pub fn served(
                 disk, dated, pending, past, snapshots, copies, copied, journal, desk, call,
                 &firsts, &seconds,
             );
-            settled(path, journal, desk, done)
+            settled(rt, path, journal, desk, done)
         }
     }
 }

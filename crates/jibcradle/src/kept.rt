@@ -10,8 +10,9 @@ use files::{file, fit, lock, paths, room};
 use journal::place::Place;
 use model::Answer;
 use restart::Started;
+use std::fs::File;
 use tables::{Copied, CopyTable, Disk, Heads, PastTable, PendingTable, Snapshots};
-use terminal::input::Input;
+use terminal::input::{Input, Source};
 use terminal::{input, say};
 
 // No store: the program ends.
@@ -26,49 +27,61 @@ fn closed() -> Desk {
             last: 0,
         },
         place: Place { at: 0 },
-        file: -1,
+        file: None,
         going: false,
         served: false,
     }
 }
 
 // A journal that is refused stays as it is.
-fn refused(path: &[u8], answer: Answer) -> Desk {
-    say::opening(b"refused ", path, answer);
+fn refused(rt: &HostRuntime, path: &[u8], answer: Answer) -> Desk {
+    say::opening(rt, b"refused ", path, answer);
     closed()
 }
 
 // The store of a journal that was read: what lies behind its last whole record is kept elsewhere and cut off the file, since a
 // shorter record written over it would leave a rest; and the file is synced, since a record from before a kill may be in it and not
 // yet there for good.
-fn begun(path: &[u8], file: i32, whole: Whole, read: &[u8], started: Started) -> Desk {
+fn begun(
+    rt: &HostRuntime,
+    path: &[u8],
+    file: Option<File>,
+    whole: Whole,
+    read: &[u8],
+    started: Started,
+) -> Desk {
     if let Whole::Failed = whole {
         return closed();
     }
     let answer = started.answer;
+    let place = started.place;
+    let Some(file) = file else {
+        return stood(started, None);
+    };
+    if answer.code() != 0 {
+        return refused(rt, path, answer);
+    }
+    if !file::is_settled(rt, path, &file, read, place.at) {
+        return closed();
+    }
+    if !say::opening(rt, b"opened ", path, answer) {
+        return closed();
+    }
+    room::tell(rt, path, 0, place.at);
+    stood(started, Some(file))
+}
+
+// A store that is served.
+fn stood(started: Started, file: Option<File>) -> Desk {
     let heads = started.heads;
     let place = started.place;
-    let desk = Desk {
+    Desk {
         heads,
         place,
         file,
         going: true,
         served: true,
-    };
-    if file < 0 {
-        return desk;
     }
-    if answer.code() != 0 {
-        return refused(path, answer);
-    }
-    if !file::is_settled(path, file, read, place.at) {
-        return closed();
-    }
-    if !say::opening(b"opened ", path, answer) {
-        return closed();
-    }
-    room::tell(path, 0, place.at);
-    desk
 }
 
 // The bytes that a journal may have. The one more that is read shows a file that is longer.
@@ -80,6 +93,7 @@ fn most(journal: &[u8; 65536]) -> usize
 
 // Serves each line of the input. False where something failed.
 fn run(
+    rt: &HostRuntime,
     disk: &mut Disk,
     dated: &mut Disk,
     pending: &mut PendingTable,
@@ -107,11 +121,12 @@ fn run(
             return !input.failed;
         }
         let number = input.line;
-        let taken = input::take(buffer, input);
+        let taken = input::take(rt, buffer, input);
         input = taken.input;
         let from = taken.from;
         let to = taken.to;
         desk = desk::served(
+            rt,
             disk,
             dated,
             pending,
@@ -129,8 +144,8 @@ fn run(
     true
 }
 
-// A store from its start to its end. The input is the descriptor's, or the night's where that is -1.
-fn serve(path: &[u8], file: i32, source: i32) -> bool {
+// A store from its start to its end. The input is standard input, or the night's lines.
+fn serve(rt: &HostRuntime, path: &[u8], file: Option<File>, source: Source) -> bool {
     let mut disk = [0u64; 512];
     let mut dated = [0u64; 512];
     let mut pending = [[0u64; 4]; 128];
@@ -139,7 +154,7 @@ fn serve(path: &[u8], file: i32, source: i32) -> bool {
     let mut copies = [[0u64; 2]; 128];
     let mut copied = [0u64; 2048];
     let mut journal = io::large_buffer();
-    let whole = file::read(path, file, &mut journal);
+    let whole = file::read(rt, path, file.as_ref(), &mut journal);
     let n = file::count(whole, &journal);
     let started = restart::restart(
         &mut disk,
@@ -151,11 +166,12 @@ fn serve(path: &[u8], file: i32, source: i32) -> bool {
         &mut copied,
         &journal[..n],
     );
-    let desk = begun(path, file, whole, &journal[..n], started);
+    let desk = begun(rt, path, file, whole, &journal[..n], started);
     let mut buffer = input::buffer();
     let input = laid(&mut buffer, source);
     let n = most(&journal);
     run(
+        rt,
         &mut disk,
         &mut dated,
         &mut pending,
@@ -172,44 +188,44 @@ fn serve(path: &[u8], file: i32, source: i32) -> bool {
 }
 
 // The input at its start. The night's lines are in the buffer already.
-fn laid(buffer: &mut [u8], source: i32) -> Input
+fn laid(buffer: &mut [u8], source: Source) -> Input
     ensures { Within result (length buffer.new) }
 {
-    if source < 0 {
+    if let Source::Laid = source {
         let end = demo::lay(buffer);
         return input::at_start(buffer, source, end);
     }
     input::at_start(buffer, source, 0)
 }
 
-pub fn in_memory() -> bool {
-    serve(b"", -1, libc::STDIN_FILENO)
+pub fn in_memory(rt: &HostRuntime) -> bool {
+    serve(rt, b"", None, Source::Typed)
 }
 
-pub fn night() -> bool {
-    serve(b"", -1, -1)
+pub fn night(rt: &HostRuntime) -> bool {
+    serve(rt, b"", None, Source::Laid)
 }
 
-fn is_served(path: &[u8]) -> bool {
-    let file = file::opened(path);
-    if file < 0 {
+fn is_served(rt: &HostRuntime, path: &[u8]) -> bool {
+    let file = file::opened(rt, path);
+    if file.is_none() {
         return false;
     }
-    serve(path, file, libc::STDIN_FILENO)
+    serve(rt, path, file, Source::Typed)
 }
 
 // Nothing is read before the lock is ours. False where something failed, after a word on standard error.
-pub fn in_file(path: &[u8]) -> bool {
-    if !say::are_open() {
+pub fn in_file(rt: &HostRuntime, path: &[u8]) -> bool {
+    if !say::are_open(rt) {
         return false;
     }
-    if !fit::is_fit(path, b"a journal") {
+    if !fit::is_fit(rt, path, b"a journal") {
         return false;
     }
-    if !lock::is_taken(path, b"the journal") {
+    if !lock::is_taken(rt, path, b"the journal") {
         return false;
     }
-    let served = is_served(path);
-    lock::release(path);
+    let served = is_served(rt, path);
+    lock::release(rt, path);
     served
 }

@@ -9,21 +9,22 @@ mod kept;
 mod records;
 mod say;
 
-use files::paths;
+use files::{paths, trouble};
+use std::io::Error;
 use terminal::{under, words};
 
-fn main() {
+fn main(rt: HostRuntime) {
     let mut word = io::buffer();
-    let n = os::arg(1, &mut word);
+    let n = words::first_bytes(&rt, 1, &mut word);
     if !paths::is_same(&word[..n], b"--under") {
-        asked_from(1);
+        asked_from(&rt, 1);
         return;
     }
-    if under::is_orphan() {
+    if under::is_orphan(&rt) {
         return;
     }
-    let status = asked_from(3);
-    under::tell(status);
+    let status = asked_from(&rt, 3);
+    under::tell(&rt, status);
 }
 
 // What is to be done with a journal: kept, listed, or its lock taken away after a signal ended the program, which the script asks.
@@ -34,67 +35,79 @@ enum Task {
     Unlock,
 }
 
-fn done(path: &[u8], task: Task) -> bool {
+fn done(rt: &HostRuntime, path: &[u8], task: Task) -> bool {
     match task {
-        Task::Keep => kept::in_file(path),
-        Task::List => records::list(path),
+        Task::Keep => kept::in_file(rt, path),
+        Task::List => records::list(rt, path),
         Task::Unlock => {
-            files::lock::clear(path);
+            files::lock::clear(rt, path);
             true
         }
     }
 }
 
-fn on_file(path: &[u8], task: Task) -> u64 {
-    if !words::is_name(path) {
+fn on_file(rt: &HostRuntime, path: &[u8], task: Task) -> u64 {
+    if !words::is_name(rt, path) {
         return 2;
     }
-    words::status_of(done(path, task))
+    words::status_of(done(rt, path, task))
 }
 
 // The journal that this word names.
-fn on_named(at: usize, task: Task) -> u64 {
+fn on_named(rt: &HostRuntime, at: usize, task: Task) -> u64 {
     let mut word = io::buffer();
-    let n = os::arg(at, &mut word);
-    if os::errno() != 0 {
-        os::fail(b"the name of the journal");
-        return 2;
+    match words::word(rt, at, &mut word) {
+        Ok(count) => {
+            let n = paths::within(count, &word);
+            on_file(rt, &word[..n], task)
+        }
+        Err(error) => unnamed(rt, error),
     }
-    on_file(&word[..n], task)
+}
+
+// A word that can't be had is no name.
+fn unnamed(rt: &HostRuntime, error: Error) -> u64 {
+    trouble::fail(rt, b"the name of the journal", &error);
+    2
 }
 
 // Two words: what is to be done, and the journal's name.
-fn asked_by_two(word: &[u8], at: usize) -> u64 {
+fn asked_by_two(rt: &HostRuntime, word: &[u8], at: usize) -> u64 {
     if paths::is_same(word, b"--records") {
-        return on_named(at, Task::List);
+        return on_named(rt, at, Task::List);
     }
     if paths::is_same(word, b"--unlock") {
-        return on_named(at, Task::Unlock);
+        return on_named(rt, at, Task::Unlock);
     }
-    words::misused()
+    words::misused(rt)
 }
 
 // What the words from this one on ask for.
-fn asked_from(first: usize) -> u64 {
-    let count = os::arg_count();
-    if count <= first {
-        return words::status_of(kept::in_memory());
+fn asked_from(rt: &HostRuntime, first: usize) -> u64 {
+    let more = words::count_from(rt, first);
+    if more == 0 {
+        return words::status_of(kept::in_memory(rt));
     }
     let mut word = io::buffer();
-    let n = os::arg(first, &mut word);
-    if os::errno() != 0 {
-        os::fail(b"the name of the journal");
-        return 2;
+    match words::word(rt, first, &mut word) {
+        Ok(count) => {
+            let n = paths::within(count, &word);
+            asked(rt, &word[..n], more, first)
+        }
+        Err(error) => unnamed(rt, error),
     }
-    let more = count - first;
+}
+
+// What the first of so many words asks for.
+fn asked(rt: &HostRuntime, word: &[u8], more: usize, first: usize) -> u64 {
     if more == 2 {
-        return asked_by_two(&word[..n], first + 1);
+        return asked_by_two(rt, word, first.saturating_add(1));
     }
     if more != 1 {
-        return words::misused();
+        return words::misused(rt);
     }
-    if paths::is_same(&word[..n], b"--demo") {
-        return words::status_of(kept::night());
+    if paths::is_same(word, b"--demo") {
+        return words::status_of(kept::night(rt));
     }
-    on_file(&word[..n], Task::Keep)
+    on_file(rt, word, Task::Keep)
 }

@@ -3,14 +3,15 @@ ghost use Rattle.io.specs.Counts.{IsPrefixLen};
 
 use crate::say;
 use files::file::Whole;
-use files::{file, fit, paths};
+use files::{file, fit, names, paths, trouble};
 use model::Answer;
+use std::fs::File;
 
 // No journal has so many records.
 const MOST: u64 = 65536;
 
 // The records from the first one on up to a place. False where standard output takes no more.
-fn are_said(journal: &[u8], end: usize) -> bool {
+fn are_said(rt: &HostRuntime, journal: &[u8], end: usize) -> bool {
     let mut at: usize = 1;
     let mut left = MOST;
     while 0 < left {
@@ -22,7 +23,7 @@ fn are_said(journal: &[u8], end: usize) -> bool {
         if next <= at {
             return true;
         }
-        if !say::record(journal, at) {
+        if !say::record(rt, journal, at) {
             return false;
         }
         at = next;
@@ -31,14 +32,14 @@ fn are_said(journal: &[u8], end: usize) -> bool {
 }
 
 // Where and why the walk ends: at the end, at a record that isn't all there, or at one that is refused.
-fn is_ended(answer: Answer, place: usize, length: usize) -> bool {
+fn is_ended(rt: &HostRuntime, answer: Answer, place: usize, length: usize) -> bool {
     if answer.code() != 0 {
-        return say::refusal(answer);
+        return say::refusal(rt, answer);
     }
     if place < length {
-        return say::torn(place as u64, (length - place) as u64);
+        return say::torn(rt, place as u64, (length - place) as u64);
     }
-    say::end(place as u64)
+    say::end(rt, place as u64)
 }
 
 // A walk that is refused for a record ends before it, any other refusal before the first.
@@ -51,7 +52,7 @@ fn end_of(answer: Answer, place: usize) -> usize {
 }
 
 // What a restart from the bytes answers decides how far the records go.
-fn are_listed(journal: &[u8]) -> bool {
+fn are_listed(rt: &HostRuntime, journal: &[u8]) -> bool {
     let mut disk = [0u64; 512];
     let mut dated = [0u64; 512];
     let mut pending = [[0u64; 4]; 128];
@@ -71,30 +72,31 @@ fn are_listed(journal: &[u8]) -> bool {
     );
     let answer = started.answer;
     let place = started.place;
-    are_said(journal, end_of(answer, place.at)) && is_ended(answer, place.at, journal.len())
+    are_said(rt, journal, end_of(answer, place.at)) && is_ended(rt, answer, place.at, journal.len())
 }
 
-fn is_read(path: &[u8], opened: i32) -> bool {
+fn is_read(rt: &HostRuntime, path: &[u8], opened: &File) -> bool {
     let mut journal = io::large_buffer();
-    let whole = file::read(path, opened, &mut journal);
+    let whole = file::read(rt, path, Some(opened), &mut journal);
     match whole {
         Whole::Failed => false,
         Whole::Bytes(count) => {
             let n = paths::within(count, &journal);
-            are_listed(&journal[..n])
+            are_listed(rt, &journal[..n])
         }
     }
 }
 
 // False where the file can't be read or standard output takes no more, after a word on standard error.
-pub fn list(path: &[u8]) -> bool {
-    if !fit::is_fit(path, b"a journal") {
+pub fn list(rt: &HostRuntime, path: &[u8]) -> bool {
+    if !fit::is_fit(rt, path, b"a journal") {
         return false;
     }
-    let opened = os::open_read(path);
-    if opened < 0 {
-        os::fail(path);
-        return false;
+    match names::open_read(rt, path) {
+        Ok(opened) => is_read(rt, path, &opened),
+        Err(error) => {
+            trouble::fail(rt, path, &error);
+            false
+        }
     }
-    is_read(path, opened)
 }

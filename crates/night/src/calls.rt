@@ -7,6 +7,7 @@ use model::Answer;
 use tables::{Copied, CopyTable, Disk, Heads, PastTable, PendingTable, Snapshots};
 
 pub fn commit(
+    rt: &HostRuntime,
     disk: &Disk,
     dated: &Disk,
     pending: &mut PendingTable,
@@ -21,9 +22,9 @@ pub fn commit(
     object: u64,
     value: u64,
 ) -> Changed {
-    prints::number(b" commit ", t);
-    prints::number(b", object ", object);
-    prints::number(b" = ", value);
+    prints::number(rt, b" commit ", t);
+    prints::number(rt, b", object ", object);
+    prints::number(rt, b" = ", value);
     changes::committing::commit(
         disk,
         dated,
@@ -48,18 +49,19 @@ fn stamps_in(stamp: u64) -> usize
     if stamp == 0 { 0 } else { 1 }
 }
 
-fn say_gossip(prev: u64, curr: u64, stamp: u64) {
-    prints::number(b" gossip ", prev);
-    prints::number(b", ", curr);
+fn say_gossip(rt: &HostRuntime, prev: u64, curr: u64, stamp: u64) {
+    prints::number(rt, b" gossip ", prev);
+    prints::number(rt, b", ", curr);
     if stamp == 0 {
-        prints::text(b", {}");
+        prints::text(rt, b", {}");
     } else {
-        prints::number(b", {", stamp);
-        prints::text(b"}");
+        prints::number(rt, b", {", stamp);
+        prints::text(rt, b"}");
     }
 }
 
 pub fn gossip(
+    rt: &HostRuntime,
     disk: &Disk,
     dated: &Disk,
     pending: &PendingTable,
@@ -74,7 +76,7 @@ pub fn gossip(
     curr: u64,
     stamp: u64,
 ) -> Changed {
-    say_gossip(prev, curr, stamp);
+    say_gossip(rt, prev, curr, stamp);
     let stamps = [stamp];
     let n = stamps_in(stamp);
     changes::gossiping::gossip(
@@ -95,6 +97,7 @@ pub fn gossip(
 }
 
 pub fn flush(
+    rt: &HostRuntime,
     disk: &mut Disk,
     dated: &mut Disk,
     pending: &mut PendingTable,
@@ -107,7 +110,7 @@ pub fn flush(
     used: Place,
     page: u64,
 ) -> Changed {
-    prints::number(b" flush ", page);
+    prints::number(rt, b" flush ", page);
     changes::flushing::flush(
         disk, dated, pending, past, snapshots, copies, copied, h, journal, used, page,
     )
@@ -115,6 +118,7 @@ pub fn flush(
 
 // The buffer holds ones before, so that a zero shown is one that was read.
 pub fn read(
+    rt: &HostRuntime,
     disk: &Disk,
     dated: &Disk,
     pending: &PendingTable,
@@ -126,8 +130,8 @@ pub fn read(
     time: u64,
     page: u64,
 ) -> Answer {
-    prints::number(b" read time ", time);
-    prints::number(b", page ", page);
+    prints::number(rt, b" read time ", time);
+    prints::number(rt, b", page ", page);
     let mut buffer = [1u64; 16];
     let answer = reads::snapshot_read(
         disk,
@@ -142,8 +146,8 @@ pub fn read(
         page,
         &mut buffer,
     );
-    prints::answered(answer);
-    prints::page(&buffer);
-    prints::end();
+    prints::answered(rt, answer);
+    prints::page(rt, &buffer);
+    prints::end(rt);
     answer
 }

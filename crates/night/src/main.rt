@@ -48,6 +48,7 @@ const SEPARATELY: [[u64; 6]; 3] = [
 
 // A call that changes the store, by its row.
 fn change(
+    rt: &HostRuntime,
     disk: &mut Disk,
     dated: &mut Disk,
     pending: &mut PendingTable,
@@ -62,23 +63,24 @@ fn change(
 ) -> Changed {
     if row[1] == COMMIT {
         return calls::commit(
-            disk, dated, pending, past, snapshots, copies, copied, h, journal, used, row[2],
+            rt, disk, dated, pending, past, snapshots, copies, copied, h, journal, used, row[2],
             row[3], row[4],
         );
     }
     if row[1] == GOSSIP {
         return calls::gossip(
-            disk, dated, pending, past, snapshots, copies, copied, h, journal, used, row[2],
+            rt, disk, dated, pending, past, snapshots, copies, copied, h, journal, used, row[2],
             row[3], row[4],
         );
     }
     calls::flush(
-        disk, dated, pending, past, snapshots, copies, copied, h, journal, used, row[2],
+        rt, disk, dated, pending, past, snapshots, copies, copied, h, journal, used, row[2],
     )
 }
 
 // What the row asks for besides the answer.
 fn show(
+    rt: &HostRuntime,
     disk: &Disk,
     dated: &Disk,
     pending: &PendingTable,
@@ -91,23 +93,24 @@ fn show(
     asked: u64,
 ) {
     let answer = done.answer;
-    prints::answered(answer);
+    prints::answered(rt, answer);
     if asked == JOURNAL {
         let place = done.place;
-        prints::bytes(journal, place.at);
+        prints::bytes(rt, journal, place.at);
     }
     if asked == STANDING {
         let stood = reads::standing(
             disk, dated, pending, past, snapshots, copies, copied, done.heads,
         );
         let figures = stood.figures;
-        prints::figures(figures);
+        prints::figures(rt, figures);
     }
-    prints::end();
+    prints::end(rt);
 }
 
 // A row of the night, as a line.
 fn step(
+    rt: &HostRuntime,
     disk: &mut Disk,
     dated: &mut Disk,
     pending: &mut PendingTable,
@@ -120,10 +123,10 @@ fn step(
     used: Place,
     row: [u64; 6],
 ) -> Changed {
-    prints::item(row[0]);
+    prints::item(rt, row[0]);
     if row[1] == READ {
         let answer = calls::read(
-            disk, dated, pending, past, snapshots, copies, copied, h, row[2], row[3],
+            rt, disk, dated, pending, past, snapshots, copies, copied, h, row[2], row[3],
         );
         return Changed {
             heads: h,
@@ -132,15 +135,16 @@ fn step(
         };
     }
     let done = change(
-        disk, dated, pending, past, snapshots, copies, copied, h, journal, used, row,
+        rt, disk, dated, pending, past, snapshots, copies, copied, h, journal, used, row,
     );
     show(
-        disk, dated, pending, past, snapshots, copies, copied, done, journal, row[5],
+        rt, disk, dated, pending, past, snapshots, copies, copied, done, journal, row[5],
     );
     done
 }
 
 fn run(
+    rt: &HostRuntime,
     disk: &mut Disk,
     dated: &mut Disk,
     pending: &mut PendingTable,
@@ -160,14 +164,14 @@ fn run(
         let row = rows[i];
         i += 1;
         let done = step(
-            disk, dated, pending, past, snapshots, copies, copied, h, journal, used, row,
+            rt, disk, dated, pending, past, snapshots, copies, copied, h, journal, used, row,
         );
         h = done.heads;
         used = done.place;
     }
 }
 
-fn run_fresh(rows: &[[u64; 6]]) {
+fn run_fresh(rt: &HostRuntime, rows: &[[u64; 6]]) {
     let mut disk = [0u64; 512];
     let mut dated = [0u64; 512];
     let mut pending = [[0u64; 4]; 128];
@@ -185,6 +189,7 @@ fn run_fresh(rows: &[[u64; 6]]) {
         last: 0,
     };
     run(
+        rt,
         &mut disk,
         &mut dated,
         &mut pending,
@@ -199,7 +204,7 @@ fn run_fresh(rows: &[[u64; 6]]) {
     );
 }
 
-fn main() {
-    run_fresh(&NIGHT);
-    run_fresh(&SEPARATELY);
+fn main(rt: HostRuntime) {
+    run_fresh(&rt, &NIGHT);
+    run_fresh(&rt, &SEPARATELY);
 }

@@ -3,44 +3,46 @@
 
 ghost use Rattle.std.specs.Prelude.{pos, ◌<ℤ◌};
 
-use libc::STDOUT_FILENO;
 use model::{Answer, Figures};
 
-pub fn text(words: &[u8]) {
-    io::write_all(STDOUT_FILENO, words);
+// A program that prints ends no sooner where standard output takes no more.
+pub fn text(rt: &HostRuntime, words: &[u8]) {
+    let _ = rt.write_all(words);
 }
 
-pub fn number(before: &[u8], n: u64) {
-    io::write_all(STDOUT_FILENO, before);
-    io::print_decimal(STDOUT_FILENO, n);
+pub fn number(rt: &HostRuntime, before: &[u8], n: u64) {
+    text(rt, before);
+    item(rt, n);
 }
 
-pub fn item(n: u64) {
-    io::print_decimal(STDOUT_FILENO, n);
+pub fn item(rt: &HostRuntime, n: u64) {
+    let mut digits = [0u8; 20];
+    let k = io::decimal(n, &mut digits);
+    text(rt, &digits[..k]);
 }
 
-pub fn end() {
-    text(b"\n");
+pub fn end(rt: &HostRuntime) {
+    text(rt, b"\n");
 }
 
-pub fn answered(answer: Answer) {
-    number(b": ", answer.code());
-    number(b" ", answer.number());
+pub fn answered(rt: &HostRuntime, answer: Answer) {
+    number(rt, b": ", answer.code());
+    number(rt, b" ", answer.number());
 }
 
-pub fn figures(f: Figures) {
-    number(b", standing ", f.pending);
-    number(b" ", f.past);
-    number(b" ", f.snapshots);
-    number(b" ", f.copies);
-    lag(f.lag);
+pub fn figures(rt: &HostRuntime, f: Figures) {
+    number(rt, b", standing ", f.pending);
+    number(rt, b" ", f.past);
+    number(rt, b" ", f.snapshots);
+    number(rt, b" ", f.copies);
+    lag(rt, f.lag);
 }
 
-fn lag(n: i64) {
+fn lag(rt: &HostRuntime, n: i64) {
     if n < 0 {
-        number(b" -", behind(n));
+        number(rt, b" -", behind(n));
     } else {
-        number(b" ", n as u64);
+        number(rt, b" ", n as u64);
     }
 }
 
@@ -51,40 +53,42 @@ fn behind(n: i64) -> u64
     (!n) as u64 + 1
 }
 
-pub fn page(words: &[u64]) {
-    text(b", words");
-    spaced(words);
+pub fn page(rt: &HostRuntime, words: &[u64]) {
+    text(rt, b", words");
+    spaced(rt, words);
 }
 
-fn spaced(words: &[u64]) {
+fn spaced(rt: &HostRuntime, words: &[u64]) {
     let mut i: usize = 0;
     while i < words.len() {
-        one_word(words[i]);
+        one_word(rt, words[i]);
         i += 1;
     }
 }
 
-fn one_word(n: u64) {
-    number(b" ", n);
+fn one_word(rt: &HostRuntime, n: u64) {
+    number(rt, b" ", n);
 }
 
 // The used bytes of the journal.
-pub fn bytes(journal: &[u8], used: usize) {
-    text(b", journal");
+pub fn bytes(rt: &HostRuntime, journal: &[u8], used: usize) {
+    text(rt, b", journal");
     if used <= journal.len() {
-        hexed(&journal[..used]);
+        hexed(rt, &journal[..used]);
     }
 }
 
-fn hexed(bytes: &[u8]) {
+fn hexed(rt: &HostRuntime, bytes: &[u8]) {
     let mut i: usize = 0;
     while i < bytes.len() {
-        one_byte(bytes[i]);
+        one_byte(rt, bytes[i]);
         i += 1;
     }
 }
 
-fn one_byte(b: u8) {
-    text(b" ");
-    io::print_hex(STDOUT_FILENO, b as u64, 2);
+fn one_byte(rt: &HostRuntime, b: u8) {
+    text(rt, b" ");
+    let mut digits = [0u8; 16];
+    let k = io::hex(b as u64, 2, &mut digits);
+    text(rt, &digits[..k]);
 }

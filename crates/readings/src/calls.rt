@@ -12,6 +12,7 @@ pub enum Call {
 }
 
 pub fn line(
+    rt: &HostRuntime,
     label: u64,
     disk: &Disk,
     dated: &Disk,
@@ -27,40 +28,40 @@ pub fn line(
 ) {
     match call {
         Call::Snapshot(time) => {
-            print::call(label, b"; snapshot");
-            print::number(time);
-            print::number(page);
+            print::call(rt, label, b"; snapshot");
+            print::number(rt, time);
+            print::number(rt, page);
             let a = reads::snapshot_read(
                 disk, dated, pending, past, snapshots, copies, copied, h, time, page, buffer,
             );
-            print::shown(a, buffer);
+            print::shown(rt, a, buffer);
             return;
         }
         Call::Clock(tick) => {
-            print::call(label, b"; clock");
-            print::number(tick);
-            print::number(page);
+            print::call(rt, label, b"; clock");
+            print::number(rt, tick);
+            print::number(rt, page);
             let a = reads::clock_read(
                 disk, dated, pending, past, snapshots, copies, copied, h, tick, page, buffer,
             );
-            print::shown(a, buffer);
+            print::shown(rt, a, buffer);
             return;
         }
         Call::Current => {
-            print::call(label, b"; current");
-            print::number(page);
+            print::call(rt, label, b"; current");
+            print::number(rt, page);
             let a = reads::current_read(
                 disk, dated, pending, past, snapshots, copies, copied, h, page, buffer,
             );
-            print::shown(a, buffer);
+            print::shown(rt, a, buffer);
             return;
         }
         Call::Standing => {
-            print::call(label, b"; standing");
+            print::call(rt, label, b"; standing");
             let s = reads::standing(disk, dated, pending, past, snapshots, copies, copied, h);
             let a = s.answer;
             let f = s.figures;
-            print::stood(a, f);
+            print::stood(rt, a, f);
             return;
         }
     }

@@ -21,49 +21,49 @@ pub fn sound() -> Small {
     unread().snap(256).snap(512)
 }
 
-fn counts() {
-    full::every(401, heads(129, 256, 64, 128));
-    full::every(402, heads(128, 257, 64, 128));
-    full::every(403, heads(128, 256, 65, 128));
-    full::every(404, heads(128, 256, 64, 129));
+fn counts(rt: &HostRuntime) {
+    full::every(rt, 401, heads(129, 256, 64, 128));
+    full::every(rt, 402, heads(128, 257, 64, 128));
+    full::every(rt, 403, heads(128, 256, 65, 128));
+    full::every(rt, 404, heads(128, 256, 64, 129));
 }
 
-fn ends() {
-    full::every(405, heads(END, 256, 64, 128));
-    full::every(406, heads(128, END, 64, 128));
-    full::every(407, heads(128, 256, END, 128));
-    full::every(408, heads(128, 256, 64, END));
+fn ends(rt: &HostRuntime) {
+    full::every(rt, 405, heads(END, 256, 64, 128));
+    full::every(rt, 406, heads(128, END, 64, 128));
+    full::every(rt, 407, heads(128, 256, END, 128));
+    full::every(rt, 408, heads(128, 256, 64, END));
 }
 
-fn rows() {
+fn rows(rt: &HostRuntime) {
     let s = sound();
-    every(409, s);
-    every(410, s.entry(512, 1, 1, 1));
-    every(411, s.was(512, 1, 2, 1));
-    every(412, s.copy(32, 1));
-    every(413, s.entry(3, 400, 400, 9));
+    every(rt, 409, s);
+    every(rt, 410, s.entry(512, 1, 1, 1));
+    every(rt, 411, s.was(512, 1, 2, 1));
+    every(rt, 412, s.copy(32, 1));
+    every(rt, 413, s.entry(3, 400, 400, 9));
 }
 
-fn stamps() {
+fn stamps(rt: &HostRuntime) {
     let s = sound();
-    every(414, unread().snap(0).snap(256).snap(512));
-    every(415, s.snap(601));
-    every(416, s.snap(512));
-    every(417, s.snap(511));
+    every(rt, 414, unread().snap(0).snap(256).snap(512));
+    every(rt, 415, s.snap(601));
+    every(rt, 416, s.snap(512));
+    every(rt, 417, s.snap(511));
 }
 
-fn large() {
+fn large(rt: &HostRuntime) {
     let s = sound();
-    snapshot(418, s.entry(LAST, 1, 1, 1), 260);
-    snapshot(419, s.was(LAST, 1, 2, 1), 260);
-    snapshot(420, s.copy(LAST, 1), 260);
-    snapshot(421, s.snap(LAST), 260);
+    snapshot(rt, 418, s.entry(LAST, 1, 1, 1), 260);
+    snapshot(rt, 419, s.was(LAST, 1, 2, 1), 260);
+    snapshot(rt, 420, s.copy(LAST, 1), 260);
+    snapshot(rt, 421, s.snap(LAST), 260);
 }
 
-pub fn lines() {
-    counts();
-    ends();
-    rows();
-    stamps();
-    large();
+pub fn lines(rt: &HostRuntime) {
+    counts(rt);
+    ends(rt);
+    rows(rt);
+    stamps(rt);
+    large(rt);
 }

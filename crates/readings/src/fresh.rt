@@ -14,7 +14,7 @@ fn heads() -> Heads {
     }
 }
 
-fn read(call: Call) {
+fn read(rt: &HostRuntime, call: Call) {
     let disk: Disk = [0; 512];
     let dated: Disk = [0; 512];
     let pending: PendingTable = [[0; 4]; 128];
@@ -24,6 +24,7 @@ fn read(call: Call) {
     let copied: Copied = [0; 2048];
     let mut buffer = [99; 16];
     calls::line(
+        rt,
         101,
         &disk,
         &dated,
@@ -39,12 +40,12 @@ fn read(call: Call) {
     );
 }
 
-pub fn lines() {
-    read(Call::Snapshot(0));
-    read(Call::Snapshot(1));
-    read(Call::Snapshot(18446744073709551615));
-    read(Call::Clock(0));
-    read(Call::Clock(1));
-    read(Call::Current);
-    read(Call::Standing);
+pub fn lines(rt: &HostRuntime) {
+    read(rt, Call::Snapshot(0));
+    read(rt, Call::Snapshot(1));
+    read(rt, Call::Snapshot(18446744073709551615));
+    read(rt, Call::Clock(0));
+    read(rt, Call::Clock(1));
+    read(rt, Call::Current);
+    read(rt, Call::Standing);
 }

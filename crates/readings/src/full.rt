@@ -32,7 +32,7 @@ pub fn heads(pending: usize, past: usize, snapshots: usize, copies: usize) -> He
     }
 }
 
-pub fn run(label: u64, l: Last, h: Heads, call: Call, page: u64) {
+pub fn run(rt: &HostRuntime, label: u64, l: Last, h: Heads, call: Call, page: u64) {
     let disk = lay::disk();
     let dated = lay::dated();
     let entries = filled::pending(l.entry);
@@ -42,6 +42,7 @@ pub fn run(label: u64, l: Last, h: Heads, call: Call, page: u64) {
     let copied = lay::copied();
     let mut buffer = [99; 16];
     calls::line(
+        rt,
         label,
         &disk,
         &dated,
@@ -57,51 +58,51 @@ pub fn run(label: u64, l: Last, h: Heads, call: Call, page: u64) {
     );
 }
 
-fn read(label: u64, h: Heads, call: Call, page: u64) {
-    run(label, proper(), h, call, page);
+fn read(rt: &HostRuntime, label: u64, h: Heads, call: Call, page: u64) {
+    run(rt, label, proper(), h, call, page);
 }
 
 // Each of the four calls.
-pub fn every(label: u64, h: Heads) {
-    read(label, h, Call::Snapshot(125), 7);
-    read(label, h, Call::Clock(1), 7);
-    read(label, h, Call::Current, 7);
-    read(label, h, Call::Standing, 7);
+pub fn every(rt: &HostRuntime, label: u64, h: Heads) {
+    read(rt, label, h, Call::Snapshot(125), 7);
+    read(rt, label, h, Call::Clock(1), 7);
+    read(rt, label, h, Call::Current, 7);
+    read(rt, label, h, Call::Standing, 7);
 }
 
-fn rows() {
+fn rows(rt: &HostRuntime) {
     let entries = heads(128, 0, 64, 0);
     let past = heads(0, 256, 64, 0);
-    read(301, entries, Call::Snapshot(125), 7);
-    read(301, entries, Call::Current, 7);
-    read(302, past, Call::Snapshot(255), 15);
-    read(302, past, Call::Snapshot(260), 15);
-    read(302, past, Call::Current, 15);
+    read(rt, 301, entries, Call::Snapshot(125), 7);
+    read(rt, 301, entries, Call::Current, 7);
+    read(rt, 302, past, Call::Snapshot(255), 15);
+    read(rt, 302, past, Call::Snapshot(260), 15);
+    read(rt, 302, past, Call::Current, 15);
 }
 
-fn known() {
+fn known(rt: &HostRuntime) {
     let h = heads(0, 0, 64, 0);
-    read(303, h, Call::Snapshot(9), 0);
-    read(303, h, Call::Snapshot(10), 0);
-    read(303, h, Call::Clock(2), 0);
-    read(303, h, Call::Snapshot(639), 0);
-    read(303, h, Call::Snapshot(700), 0);
-    read(303, h, Call::Snapshot(701), 0);
+    read(rt, 303, h, Call::Snapshot(9), 0);
+    read(rt, 303, h, Call::Snapshot(10), 0);
+    read(rt, 303, h, Call::Clock(2), 0);
+    read(rt, 303, h, Call::Snapshot(639), 0);
+    read(rt, 303, h, Call::Snapshot(700), 0);
+    read(rt, 303, h, Call::Snapshot(701), 0);
 }
 
-fn archived() {
+fn archived(rt: &HostRuntime) {
     let h = heads(0, 0, 64, 128);
-    read(304, h, Call::Snapshot(35), 31);
-    read(304, h, Call::Snapshot(105), 31);
-    read(304, h, Call::Snapshot(135), 31);
-    read(304, h, Call::Current, 31);
+    read(rt, 304, h, Call::Snapshot(35), 31);
+    read(rt, 304, h, Call::Snapshot(105), 31);
+    read(rt, 304, h, Call::Snapshot(135), 31);
+    read(rt, 304, h, Call::Current, 31);
 }
 
-pub fn lines() {
+pub fn lines(rt: &HostRuntime) {
     let h = heads(128, 256, 64, 128);
-    rows();
-    known();
-    archived();
-    every(305, h);
-    read(305, h, Call::Snapshot(105), 7);
+    rows(rt);
+    known(rt);
+    archived(rt);
+    every(rt, 305, h);
+    read(rt, 305, h, Call::Snapshot(105), 7);
 }

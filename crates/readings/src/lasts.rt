@@ -3,48 +3,48 @@ use crate::calls::Call;
 use crate::full::{Last, heads, proper, run};
 use tables::Heads;
 
-fn odd(label: u64, l: Last, h: Heads) {
-    run(label, l, h, Call::Snapshot(125), 7);
+fn odd(rt: &HostRuntime, label: u64, l: Last, h: Heads) {
+    run(rt, label, l, h, Call::Snapshot(125), 7);
 }
 
-fn entries() {
+fn entries(rt: &HostRuntime) {
     let h = heads(128, 256, 64, 128);
     let mut l = proper();
     l.entry = 512;
-    odd(422, l, h);
-    odd(423, l, heads(127, 256, 64, 128));
+    odd(rt, 422, l, h);
+    odd(rt, 423, l, heads(127, 256, 64, 128));
     l.entry = 0;
-    odd(424, l, h);
-    odd(425, l, heads(127, 256, 64, 128));
+    odd(rt, 424, l, h);
+    odd(rt, 425, l, heads(127, 256, 64, 128));
 }
 
-fn pasts() {
+fn pasts(rt: &HostRuntime) {
     let mut l = proper();
     l.was = 512;
-    odd(426, l, heads(128, 256, 64, 128));
-    odd(427, l, heads(128, 255, 64, 128));
+    odd(rt, 426, l, heads(128, 256, 64, 128));
+    odd(rt, 427, l, heads(128, 255, 64, 128));
 }
 
-fn snaps() {
+fn snaps(rt: &HostRuntime) {
     let h = heads(128, 256, 64, 128);
     let mut l = proper();
     l.snap = 630;
-    odd(428, l, h);
+    odd(rt, 428, l, h);
     l.snap = 701;
-    odd(429, l, h);
-    odd(430, l, heads(128, 256, 63, 128));
+    odd(rt, 429, l, h);
+    odd(rt, 430, l, heads(128, 256, 63, 128));
 }
 
-fn copies() {
+fn copies(rt: &HostRuntime) {
     let mut l = proper();
     l.page = 32;
-    odd(431, l, heads(128, 256, 64, 128));
-    odd(432, l, heads(128, 256, 64, 127));
+    odd(rt, 431, l, heads(128, 256, 64, 128));
+    odd(rt, 432, l, heads(128, 256, 64, 127));
 }
 
-pub fn lines() {
-    entries();
-    pasts();
-    snaps();
-    copies();
+pub fn lines(rt: &HostRuntime) {
+    entries(rt);
+    pasts(rt);
+    snaps(rt);
+    copies(rt);
 }

@@ -22,18 +22,18 @@ mod standings;
 mod store;
 mod times;
 
-fn main() {
-    fresh::lines();
-    bounds::lines();
-    full::lines();
-    damage::lines();
-    lasts::lines();
-    hidden::lines();
-    served::lines();
-    spans::lines();
-    entries::lines();
-    times::lines();
-    shapes::lines();
-    clocks::lines();
-    standings::lines();
+fn main(rt: HostRuntime) {
+    fresh::lines(&rt);
+    bounds::lines(&rt);
+    full::lines(&rt);
+    damage::lines(&rt);
+    lasts::lines(&rt);
+    hidden::lines(&rt);
+    served::lines(&rt);
+    spans::lines(&rt);
+    entries::lines(&rt);
+    times::lines(&rt);
+    shapes::lines(&rt);
+    clocks::lines(&rt);
+    standings::lines(&rt);
 }

@@ -2,25 +2,25 @@
 use model::{Answer, Figures};
 
 // The label of a store and the name of a call.
-pub fn call(label: u64, name: &[u8]) {
-    prints::item(label);
-    prints::text(name);
+pub fn call(rt: &HostRuntime, label: u64, name: &[u8]) {
+    prints::item(rt, label);
+    prints::text(rt, name);
 }
 
-pub fn number(n: u64) {
-    prints::number(b" ", n);
+pub fn number(rt: &HostRuntime, n: u64) {
+    prints::number(rt, b" ", n);
 }
 
 // What a read answers, all words of its buffer, and the line's end.
-pub fn shown(a: Answer, buffer: &[u64]) {
-    prints::answered(a);
-    prints::page(buffer);
-    prints::end();
+pub fn shown(rt: &HostRuntime, a: Answer, buffer: &[u64]) {
+    prints::answered(rt, a);
+    prints::page(rt, buffer);
+    prints::end(rt);
 }
 
 // What standing answers, and the line's end.
-pub fn stood(a: Answer, f: Figures) {
-    prints::answered(a);
-    prints::figures(f);
-    prints::end();
+pub fn stood(rt: &HostRuntime, a: Answer, f: Figures) {
+    prints::answered(rt, a);
+    prints::figures(rt, f);
+    prints::end(rt);
 }

@@ -3,7 +3,7 @@ use crate::calls::Call;
 use crate::store::Small;
 use crate::{calls, lay};
 
-pub fn into(label: u64, s: Small, call: Call, page: u64, buffer: &mut [u64]) {
+pub fn into(rt: &HostRuntime, label: u64, s: Small, call: Call, page: u64, buffer: &mut [u64]) {
     let disk = lay::disk();
     let dated = lay::dated();
     let pending_rows = s.pending;
@@ -17,27 +17,28 @@ pub fn into(label: u64, s: Small, call: Call, page: u64, buffer: &mut [u64]) {
     let copied = lay::copied();
     let h = s.heads;
     calls::line(
-        label, &disk, &dated, &pending, &past, &snapshots, &copies, &copied, h, call, page, buffer,
+        rt, label, &disk, &dated, &pending, &past, &snapshots, &copies, &copied, h, call, page,
+        buffer,
     );
 }
 
-pub fn read(label: u64, s: Small, call: Call, page: u64) {
+pub fn read(rt: &HostRuntime, label: u64, s: Small, call: Call, page: u64) {
     let mut buffer = [99; 16];
-    into(label, s, call, page, &mut buffer);
+    into(rt, label, s, call, page, &mut buffer);
 }
 
-pub fn snapshot(label: u64, s: Small, time: u64) {
-    read(label, s, Call::Snapshot(time), 0);
+pub fn snapshot(rt: &HostRuntime, label: u64, s: Small, time: u64) {
+    read(rt, label, s, Call::Snapshot(time), 0);
 }
 
-pub fn stood(label: u64, s: Small) {
-    read(label, s, Call::Standing, 0);
+pub fn stood(rt: &HostRuntime, label: u64, s: Small) {
+    read(rt, label, s, Call::Standing, 0);
 }
 
 // Each of the four calls.
-pub fn every(label: u64, s: Small) {
-    read(label, s, Call::Snapshot(260), 0);
-    read(label, s, Call::Clock(1), 0);
-    read(label, s, Call::Current, 0);
-    read(label, s, Call::Standing, 0);
+pub fn every(rt: &HostRuntime, label: u64, s: Small) {
+    read(rt, label, s, Call::Snapshot(260), 0);
+    read(rt, label, s, Call::Clock(1), 0);
+    read(rt, label, s, Call::Current, 0);
+    read(rt, label, s, Call::Standing, 0);
 }

@@ -1,8 +1,9 @@
-// Lines from a descriptor, by way of a lent buffer.
+// Lines from standard input, by way of a lent buffer.
 ghost use Rattle.std.specs.Prelude.{◌≡◌, ◌≤◌, ◌<◌, length};
 ghost use Rattle.terminal.specs.Buffers.{Within, Lies};
 
 use crate::say;
+use std::io::{ErrorKind, IsTerminal, Read};
 
 // Turns of a loop over the input: no input lasts so long.
 pub const TURNS: u64 = 4611686018427387904;
@@ -16,12 +17,18 @@ pub fn buffer() -> [u8; ROOM]
     [0; ROOM]
 }
 
+// Where lines come from: standard input, or nowhere, so that there are none but those laid in the buffer.
+#[derive(Clone, Copy)]
+pub enum Source {
+    Typed,
+    Laid,
+}
+
 // Where the input stands: the bytes from start to end are read and not yet served, they begin the line of this number, and no
-// newline is among those before seen. The descriptor -1 has no bytes but these. A line that is too long is passed over to its
-// newline. Reading that failed ends the input.
-#[derive(Drop)]
+// newline is among those before seen. A line that is too long is passed over to its newline. Reading that failed ends the input.
+#[derive(Clone, Copy)]
 pub struct Input {
-    pub source: i32,
+    pub source: Source,
     pub start: usize,
     pub seen: usize,
     pub end: usize,
@@ -32,7 +39,7 @@ pub struct Input {
 }
 
 // The input at its start, with so many bytes in the buffer already.
-pub fn at_start(buffer: &[u8], source: i32, laid: usize) -> Input
+pub fn at_start(buffer: &[u8], source: Source, laid: usize) -> Input
     ensures { Within result (length buffer.now) }
 {
     let end = files::paths::within(laid, buffer);
@@ -49,7 +56,7 @@ pub fn at_start(buffer: &[u8], source: i32, laid: usize) -> Input
 }
 
 // A line's bytes: none where there is no line to serve yet.
-#[derive(Drop)]
+#[derive(Clone, Copy)]
 pub struct Taken {
     pub input: Input,
     pub from: usize,
@@ -79,10 +86,10 @@ fn newline(buffer: &[u8], start: usize, end: usize) -> usize
 }
 
 // A line that nobody typed is shown as if somebody had.
-fn shown(line: &[u8]) -> bool {
-    say::text(b"> ");
-    say::text(line);
-    say::text(b"\n")
+fn shown(rt: &HostRuntime, line: &[u8]) -> bool {
+    say::text(rt, b"> ");
+    say::text(rt, line);
+    say::text(rt, b"\n")
 }
 
 // A mark of UTF-8 at the start of a file is no part of its first line.
@@ -108,7 +115,7 @@ fn mark(bytes: &[u8], number: u64) -> usize
 }
 
 // The line that ends at a newline.
-fn line_to(buffer: &[u8], input: Input, at: usize) -> Taken
+fn line_to(rt: &HostRuntime, buffer: &[u8], input: Input, at: usize) -> Taken
     requires { Within input (length buffer.now) × (input.start ≤ at) × (at < input.end) }
     ensures { Lies result (length buffer.now) }
 {
@@ -130,8 +137,8 @@ fn line_to(buffer: &[u8], input: Input, at: usize) -> Taken
             to: 0,
         };
     }
-    if input.source < 0 {
-        shown(&buffer[start..at]);
+    if let Source::Laid = input.source {
+        shown(rt, &buffer[start..at]);
     }
     let from = start + mark(&buffer[start..at], input.line);
     Taken {
@@ -185,7 +192,7 @@ fn ended(input: Input, failed: bool) -> Input
 }
 
 // Makes room behind the beginning of a line. One that fills the buffer is too long.
-fn moved(buffer: &mut [u8], input: Input) -> Input
+fn moved(rt: &HostRuntime, buffer: &mut [u8], input: Input) -> Input
     requires { Within input (length buffer.old) }
     ensures { Within result (length buffer.new) }
 {
@@ -197,74 +204,95 @@ fn moved(buffer: &mut [u8], input: Input) -> Input
     if kept < buffer.len() {
         return begun(input, kept, false);
     }
-    if say::wrong_line(input.line, b" is longer than 1048576 bytes\n") {
+    if say::wrong_line(rt, input.line, b" is longer than 1048576 bytes\n") {
         return begun(input, 0, true);
     }
     ended(input, true)
 }
 
 // A line that was begun and has no end may be half of a call.
-fn over(input: Input) -> Input
+fn over(rt: &HostRuntime, input: Input) -> Input
     ensures { (result.start ≡ 0) × (result.seen ≡ 0) × (result.end ≡ 0) }
 {
     if 0 < input.end && !input.passing {
-        let said = say::wrong_line(input.line, b" has no end\n");
+        let said = say::wrong_line(rt, input.line, b" has no end\n");
         return ended(input, !said);
     }
     ended(input, false)
 }
 
-fn prompt(input: Input) {
-    if input.end == 0 && !input.passing && libc::isatty(input.source) == 1 {
-        say::text(b"> ");
+fn prompt(rt: &HostRuntime, input: Input) {
+    if input.end == 0 && !input.passing && rt.stdin().is_terminal() {
+        say::text(rt, b"> ");
+    }
+}
+
+// What one read gives: how many bytes, or none where it was interrupted or failed.
+#[derive(Clone, Copy)]
+enum Got {
+    Bytes(usize),
+    Interrupted,
+    Failed,
+}
+
+// Reads once, after a word on standard error where that fails.
+fn read_once(rt: &HostRuntime, room: &mut [u8]) -> Got {
+    let mut stdin = rt.stdin();
+    match stdin.read(room) {
+        Ok(n) => Got::Bytes(n),
+        Err(error) => {
+            if error.kind() == ErrorKind::Interrupted {
+                return Got::Interrupted;
+            }
+            files::trouble::fail(rt, b"standard input", &error);
+            Got::Failed
+        }
     }
 }
 
 // Reads once behind the bytes that are there.
-fn read(buffer: &mut [u8], input: Input) -> Input
+fn read(rt: &HostRuntime, buffer: &mut [u8], input: Input) -> Input
     requires { Within input (length buffer.old) }
     ensures { Within result (length buffer.new) }
 {
-    if input.source < 0 {
-        return over(input);
+    if let Source::Laid = input.source {
+        return over(rt, input);
     }
-    prompt(input);
+    prompt(rt, input);
     let end = input.end;
-    let got = libc::read(input.source, &mut buffer[end..]);
-    if got < 0 && os::errno() == libc::EINTR {
-        return input;
-    }
-    if got < 0 {
-        os::fail(b"standard input");
-        return ended(input, true);
-    }
-    if got == 0 {
-        return over(input);
-    }
-    let n = io::count(got, &buffer[end..]);
-    Input {
-        source: input.source,
-        start: 0,
-        seen: end,
-        end: end + n,
-        line: input.line,
-        passing: input.passing,
-        going: true,
-        failed: false,
+    match read_once(rt, &mut buffer[end..]) {
+        Got::Interrupted => input,
+        Got::Failed => ended(input, true),
+        Got::Bytes(count) => {
+            let n = files::paths::within(count, &buffer[end..]);
+            if n == 0 {
+                return over(rt, input);
+            }
+            Input {
+                source: input.source,
+                start: 0,
+                seen: end,
+                end: end + n,
+                line: input.line,
+                passing: input.passing,
+                going: true,
+                failed: false,
+            }
+        }
     }
 }
 
 // The next line, or one turn on the way to it.
-pub fn take(buffer: &mut [u8], input: Input) -> Taken
+pub fn take(rt: &HostRuntime, buffer: &mut [u8], input: Input) -> Taken
     requires { Within input (length buffer.old) }
     ensures { Lies result (length buffer.new) }
 {
     let end = input.end;
     let at = newline(buffer, input.seen, end);
     if at < end {
-        return line_to(buffer, input, at);
+        return line_to(rt, buffer, input, at);
     }
-    let left = moved(buffer, input);
+    let left = moved(rt, buffer, input);
     if !left.going {
         return Taken {
             input: left,
@@ -272,7 +300,7 @@ pub fn take(buffer: &mut [u8], input: Input) -> Taken
             to: 0,
         };
     }
-    let more = read(buffer, left);
+    let more = read(rt, buffer, left);
     Taken {
         input: more,
         from: 0,

@@ -2,58 +2,82 @@
 // a word on standard error.
 ghost use Rattle.io.specs.Counts.{IsPrefixLen};
 
-use libc::{STDERR_FILENO, STDOUT_FILENO};
+use files::trouble;
 use lines::Fault;
 use model::Answer;
+use std::os::fd::{AsFd, BorrowedFd};
+
+// What the system answers where no file is open under a descriptor.
+const EBADF: i32 = 9;
 
 // A file opened while a standard descriptor is closed would take its number, and answers would go into it.
-fn is_open(descriptor: i32, name: &[u8]) -> bool {
-    if 0 <= libc::lseek(descriptor, 0, libc::SEEK_CUR) {
-        return true;
+fn is_open(rt: &HostRuntime, stream: BorrowedFd<'_>, name: &[u8]) -> bool {
+    match stream.try_clone_to_owned() {
+        Ok(_) => true,
+        Err(error) => {
+            if error.raw_os_error() != Some(EBADF) {
+                return true;
+            }
+            trouble::fail(rt, name, &error);
+            false
+        }
     }
-    if os::errno() != libc::EBADF {
-        return true;
-    }
-    os::fail(name);
-    false
 }
 
-pub fn are_open() -> bool {
-    if !is_open(libc::STDIN_FILENO, b"standard input") {
-        return false;
-    }
-    if !is_open(STDERR_FILENO, b"standard error") {
-        return false;
-    }
-    is_open(STDOUT_FILENO, b"standard output")
+fn is_input_open(rt: &HostRuntime) -> bool {
+    let stdin = rt.stdin();
+    is_open(rt, stdin.as_fd(), b"standard input")
 }
 
-pub fn text(words: &[u8]) -> bool {
-    if io::write_all(STDOUT_FILENO, words) {
-        return true;
+fn is_error_open(rt: &HostRuntime) -> bool {
+    let stderr = rt.stderr();
+    is_open(rt, stderr.as_fd(), b"standard error")
+}
+
+fn is_output_open(rt: &HostRuntime) -> bool {
+    let stdout = rt.stdout();
+    is_open(rt, stdout.as_fd(), b"standard output")
+}
+
+pub fn are_open(rt: &HostRuntime) -> bool {
+    is_input_open(rt) && is_error_open(rt) && is_output_open(rt)
+}
+
+pub fn text(rt: &HostRuntime, words: &[u8]) -> bool {
+    match rt.write_all(words) {
+        Ok(()) => true,
+        Err(error) => {
+            trouble::fail(rt, b"standard output", &error);
+            false
+        }
     }
-    os::fail(b"standard output");
-    false
+}
+
+// A number's digits. It says no word where standard output takes no more.
+pub fn digits(rt: &HostRuntime, n: u64) -> bool {
+    let mut room = [0u8; 20];
+    let k = io::decimal(n, &mut room);
+    rt.write_all(&room[..k]).is_ok()
 }
 
 // The first n bytes of a line.
-pub fn first(line: &[u8; answers::ROOM], n: usize) -> bool {
+pub fn first(rt: &HostRuntime, line: &[u8; answers::ROOM], n: usize) -> bool {
     let whole = &line[..];
     let k = files::paths::within(n, whole);
-    text(&whole[..k])
+    text(rt, &whole[..k])
 }
 
-pub fn answer(a: Answer) -> bool {
+pub fn answer(rt: &HostRuntime, a: Answer) -> bool {
     let mut line = [0u8; answers::ROOM];
     let n = answers::answer_line(a, &mut line);
-    first(&line, n)
+    first(rt, &line, n)
 }
 
 // Two numbers, and stamps behind them.
-pub fn known(a: Answer, one: u64, two: u64, stamps: &[u64]) -> bool {
+pub fn known(rt: &HostRuntime, a: Answer, one: u64, two: u64, stamps: &[u64]) -> bool {
     let mut line = [0u8; answers::ROOM];
     let n = answers::known_line(a, one, two, stamps, &mut line);
-    first(&line, n)
+    first(rt, &line, n)
 }
 
 // How many bytes a call has written into lent ones: its answer's number, where it is Done.
@@ -67,10 +91,10 @@ pub fn written(a: Answer, lent: &[u8]) -> usize
 }
 
 // The answer, and behind it the bytes in hex.
-pub fn bytes(a: Answer, bytes: &[u8]) -> bool {
+pub fn bytes(rt: &HostRuntime, a: Answer, bytes: &[u8]) -> bool {
     let mut line = [0u8; answers::ROOM];
     let n = answers::bytes_line(a, bytes, &mut line);
-    first(&line, n)
+    first(rt, &line, n)
 }
 
 fn number_of(fault: Fault) -> u64 {
@@ -87,25 +111,25 @@ fn number_of(fault: Fault) -> u64 {
     }
 }
 
-pub fn wrong(fault: Fault, number: u64, column: usize) -> bool {
+pub fn wrong(rt: &HostRuntime, fault: Fault, number: u64, column: usize) -> bool {
     let mut line = [0u8; answers::ROOM];
     let n = answers::fault_line(number_of(fault), number, column as u64, &mut line);
-    first(&line, n)
+    first(rt, &line, n)
 }
 
 // `? line N`, and what is wrong with the whole of it.
-pub fn wrong_line(number: u64, what: &[u8]) -> bool {
-    text(b"? line ") && io::print_decimal(STDOUT_FILENO, number) && text(what)
+pub fn wrong_line(rt: &HostRuntime, number: u64, what: &[u8]) -> bool {
+    text(rt, b"? line ") && digits(rt, number) && text(rt, what)
 }
 
 // The first word is `opened ` or `refused `.
-pub fn opening(word: &[u8], path: &[u8], a: Answer) -> bool {
+pub fn opening(rt: &HostRuntime, word: &[u8], path: &[u8], a: Answer) -> bool {
     let mut line = [0u8; answers::ROOM];
     let n = answers::opened_line(a, &mut line);
-    text(word) && text(path) && first(&line, n)
+    text(rt, word) && text(rt, path) && first(rt, &line, n)
 }
 
 // `? `, a name and what is wrong with it.
-pub fn refused(name: &[u8], what: &[u8]) -> bool {
-    text(b"? ") && text(name) && text(what) && text(b"\n")
+pub fn refused(rt: &HostRuntime, name: &[u8], what: &[u8]) -> bool {
+    text(rt, b"? ") && text(rt, name) && text(rt, what) && text(rt, b"\n")
 }

@@ -1,15 +1,63 @@
 // The words that a command is started with, and the status that it ends with: 0 where all was served, 1 where a file, a lock or a write
 // failed, 2 for bad usage.
-use files::paths;
+ghost use Rattle.io.specs.Counts.{IsPrefixLen};
+
+use files::{paths, trouble};
+use std::env::FillError;
+use std::io::Error;
+use std::rt::Env;
+
+// What the system says of a word that isn't there, and of one that is too long.
+const EINVAL: i32 = 22;
+
+const ENAMETOOLONG: i32 = 36;
+
+// Puts a word's bytes at the front of out; how many they are, or why they can't be had.
+pub fn word(rt: &HostRuntime, at: usize, out: &mut [u8]) -> Result<usize, Error> {
+    match rt.arg(at, out) {
+        Ok(n) => Ok(n),
+        Err(FillError::NotPresent) => Err(Error::from_raw_os_error(EINVAL)),
+        Err(FillError::TooLong) => Err(Error::from_raw_os_error(ENAMETOOLONG)),
+    }
+}
+
+// The same, and no bytes where they can't be had.
+pub fn first_bytes(rt: &HostRuntime, at: usize, out: &mut [u8]) -> usize
+    ensures { IsPrefixLen result out.new }
+{
+    match word(rt, at, out) {
+        Ok(n) => paths::within(n, out),
+        Err(_) => paths::within(0, out),
+    }
+}
+
+fn is_word(rt: &HostRuntime, at: usize) -> bool {
+    let mut room = [0u8; 1];
+    !matches!(rt.arg(at, &mut room), Err(FillError::NotPresent))
+}
+
+// How many words there are from this one on, up to three.
+pub fn count_from(rt: &HostRuntime, first: usize) -> usize {
+    if !is_word(rt, first) {
+        return 0;
+    }
+    if !is_word(rt, first.saturating_add(1)) {
+        return 1;
+    }
+    if !is_word(rt, first.saturating_add(2)) {
+        return 2;
+    }
+    3
+}
 
 pub fn status_of(served: bool) -> u64 {
     if served { 0 } else { 1 }
 }
 
 // How the script is called: a person starts both programs by it.
-pub fn misused() -> u64 {
-    io::write_all(
-        libc::STDERR_FILENO,
+pub fn misused(rt: &HostRuntime) -> u64 {
+    trouble::more(
+        rt,
         b"usage: jibcradle [JOURNAL | --coordinator [FILE] | --demo | --records JOURNAL | --help | --version]\n",
     );
     2
@@ -24,13 +72,13 @@ fn is_plain(word: &[u8]) -> bool {
 }
 
 // Whether the word can be a file's name. If not, there was a word on standard error.
-pub fn is_name(word: &[u8]) -> bool {
+pub fn is_name(rt: &HostRuntime, word: &[u8]) -> bool {
     if !is_plain(word) {
-        misused();
+        misused(rt);
         return false;
     }
     if paths::LONGEST < word.len() {
-        files::trouble::say(word, b"the name is longer than 4000 bytes");
+        trouble::say(rt, word, b"the name is longer than 4000 bytes");
         return false;
     }
     true

@@ -1,3 +1,0 @@
-pub mod ByPath
-pub mod Lent
-pub mod Signs
