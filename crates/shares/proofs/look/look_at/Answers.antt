@@ -19,10 +19,10 @@ under c =
     let a = c.args in
     let qs = take a.h.past (pasts a.past.now) in
     let d = c.lay_disk.ensures in
-    (elim c.if-not-v.branch [ then-not-v w ↦ w.5 ∙ w.2.ensures ∙ beneath_past a.disk.now a.dated.now qs a.v d (not-true _ w.if-not-v.true) | else-not-v w ↦ w.1 ∙ beneath_now a.disk.now a.dated.now qs a.v d (not-false _ w.if-not-v.false) ])
+    (elim c.if-not-v.branch [ then-not-v w ↦ w.out-is ∙ w.lay_rows.ensures ∙ beneath_past a.disk.now a.dated.now qs a.v d (not-true _ w.if-not-v.true) | else-not-v w ↦ w.out-is ∙ beneath_now a.disk.now a.dated.now qs a.v d (not-false _ w.if-not-v.false) ])
 
 pub returns : goal.returns
-returns c =
+returns c snapshots copies copied =
     let a = c.args in
     c.lay_entries.ensures
     ∙ look_page a.disk.now a.dated.now a.pending.now a.past.now a.h a.v c.requires.lookable (under (goal.at.returns c).Joined-not-v) snapshots copies copied

@@ -20,7 +20,7 @@ loop-j-preserved c = let a = c.args in
     let t : Turn a.numbers.now a.k v.j = record { left = omega arith; inside = v.invariant.0; rows = c.requires.k_bound.1 } in (
       omega arith,
       omega arith,
-      λ f w p. pages_same (λ (goal.at.loop-j-preserved c).Start. numbers_more (λ e. leb e.latest (goal.at.loop-j-preserved c).Start) (λ e. slot_of e.object) (λ e. part_of a.ages (pending_seen e)) (pending_of []) (pendings a.pending.now) a.numbers.now a.k v.j t c.entry_at-e.ensures (f (goal.at.loop-j-preserved c).Start)) (c.lay_entry.ensures (λ (goal.at.loop-j-preserved c).Start. laid_from (λ e. leb e.latest (goal.at.loop-j-preserved c).Start) (λ e. slot_of e.object) (λ e. part_of a.ages (pending_seen e)) (pending_of []) (pendings a.pending.now) a.numbers.now a.k v.j (f (goal.at.loop-j-preserved c).Start)) w (v.invariant.2 f w p)),
+      λ f w p. pages_same (λ s. numbers_more (λ e. leb e.latest s) (λ e. slot_of e.object) (λ e. part_of a.ages (pending_seen e)) (pending_of []) (pendings a.pending.now) a.numbers.now a.k v.j t c.entry_at-e.ensures (f s)) (c.lay_entry.ensures (λ s. laid_from (λ e. leb e.latest s) (λ e. slot_of e.object) (λ e. part_of a.ages (pending_seen e)) (pending_of []) (pendings a.pending.now) a.numbers.now a.k v.j (f s)) w (v.invariant.2 f w p)),
     )
 
 pub returns : goal.returns

@@ -19,7 +19,7 @@ loop-j-preserved c = let a = c.args in
     let t : Turn a.numbers.now a.k v.j = record { left = omega arith; inside = v.invariant.0; rows = c.requires.k_bound.1 } in (
       omega arith,
       omega arith,
-      λ f w p. pages_same (λ (goal.at.loop-j-preserved c).Start. numbers_more (in_span (goal.at.loop-j-preserved c).Start) (λ q. slot_of q.object) (λ q. part_of a.ages (past_seen q)) (past_of []) (pasts a.past.now) a.numbers.now a.k v.j t c.row_at-q.ensures (f (goal.at.loop-j-preserved c).Start)) (c.lay_row.ensures (λ (goal.at.loop-j-preserved c).Start. laid_from (in_span (goal.at.loop-j-preserved c).Start) (λ q. slot_of q.object) (λ q. part_of a.ages (past_seen q)) (past_of []) (pasts a.past.now) a.numbers.now a.k v.j (f (goal.at.loop-j-preserved c).Start)) w (v.invariant.2 f w p)),
+      λ f w p. pages_same (λ s. numbers_more (in_span s) (λ q. slot_of q.object) (λ q. part_of a.ages (past_seen q)) (past_of []) (pasts a.past.now) a.numbers.now a.k v.j t c.row_at-q.ensures (f s)) (c.lay_row.ensures (λ s. laid_from (in_span s) (λ q. slot_of q.object) (λ q. part_of a.ages (past_seen q)) (past_of []) (pasts a.past.now) a.numbers.now a.k v.j (f s)) w (v.invariant.2 f w p)),
     )
 
 pub returns : goal.returns
