@@ -1,11 +1,6 @@
 -- `add_all` leaves the store after the commit: the entries written with those to come are all.
-use Prim.Native.Nat.{◌-◌, ◌≤◌}
-use mathlib.Core.Path.{◌≡◌, ap, ◌∙◌}
 use native.Mathlib.Omega.{arith}
-use lib.ListN.{length, length-set}
-use borrow.Author.Rules.{rules}
-use Rattle.tables.specs.Rows.{pendings}
-use Rattle.commits.proofs.AllNew.{Adding, adding_next, added_all}
+use Rattle.commits.proofs.AllNew.{added_all}
 use Rattle.commits.proofs.add_all.Goals as goal
 
 pub returns : goal.returns

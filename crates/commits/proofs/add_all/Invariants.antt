@@ -1,11 +1,9 @@
 -- `add_all` leaves the store after the commit: the entries written with those to come are all.
 use Prim.Native.Nat.{◌-◌, ◌≤◌}
-use mathlib.Core.Path.{◌≡◌, ap, ◌∙◌}
-use native.Mathlib.Omega.{arith}
-use lib.ListN.{length, length-set}
-use borrow.Author.Rules.{rules}
+use mathlib.Core.Path.{◌≡◌}
+use lib.ListN.{length}
 use Rattle.tables.specs.Rows.{pendings}
-use Rattle.commits.proofs.AllNew.{Adding, adding_next, added_all}
+use Rattle.commits.proofs.AllNew.{Adding}
 use Rattle.commits.proofs.add_all.Given as goal
 
 abbrev pub invariant-loop-k : goal.invariant-loop-k

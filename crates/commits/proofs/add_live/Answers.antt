@@ -1,6 +1,5 @@
 -- `add_live` adds the past value if live: the room for it is asked of the caller.
-use borrow.Author.Rules.{rules}
-use Rattle.commits.proofs.OneWrite.{add_room, added_yes, added_no}
+use Rattle.commits.proofs.OneWrite.{add_room, added_yes}
 use Prim.Native.Nat.{◌<◌}
 use Rattle.commits.proofs.add_live.Goals as goal
 use Rattle.commits.proofs.add_live.Goals.{Then-lives}

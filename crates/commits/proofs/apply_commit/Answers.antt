@@ -1,12 +1,11 @@
 -- `apply_commit` leaves the store after the commit, and its entries in the index: the writes made with those to come are all.
-use Prim.Native.Nat.{◌-◌, ◌≤◌, ◌<◌}
+use Prim.Native.Nat.{◌<◌}
 use mathlib.Core.Path.{◌≡◌}
 use native.Mathlib.Omega.{arith}
-use lib.ListN.{length, take, get_or}
-use borrow.Author.Rules.{rules}
+use lib.ListN.{take, get_or}
 use Rattle.tables.specs.Rows.{pendings}
 use Rattle.tables.specs.Lookups.{find_pending, row_of}
-use Rattle.commits.proofs.Writing.{Writing, object_low, writing_start, writing_room, writing_one, writing_over, writing_new, writing_end}
+use Rattle.commits.proofs.Writing.{object_low, writing_room, writing_over, writing_new, writing_end}
 use Rattle.commits.proofs.apply_commit.Goals as goal
 use Rattle.commits.proofs.apply_commit.Goals.{After-row_of-row, In-loop-k}
 
@@ -25,8 +24,7 @@ row c = let v = c.loop-k in c.row_of-row.ensures (take v.after.pending (pendings
 pub write_one-after-requires-clause-past_len : goal.write_one-after-requires-clause-past_len
 write_one-after-requires-clause-past_len c =
     let a = c.args in
-    let w = c.loop-k.invariant.1 in
-    (
+    let w = c.loop-k.invariant.1 in (
       w.past_rows,
       writing_room c.requires.ready a.past.now a.t a.values.now c.requires.past_len.1 w c.loop-k-test.true c.requires.past_len.2,
     )

@@ -1,5 +1,4 @@
 -- `displaces` judges the value of the entry at the row; with no entry there is none.
-use borrow.Author.Rules.{rules}
 use Rattle.commits.proofs.OneWrite.{displaces_at, displaces_none}
 use Rattle.commits.proofs.displaces.Goals as goal
 

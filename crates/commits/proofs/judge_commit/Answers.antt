@@ -1,5 +1,4 @@
 -- `judge_commit` says what the model says: each answer hands its tests to the law of its verdict.
-use borrow.Author.Rules.{rules}
 use Rattle.commits.proofs.Judged.{judged_late, judged_pending, judged_past, judged_accepted}
 use Rattle.commits.proofs.judge_commit.Goals as goal
 

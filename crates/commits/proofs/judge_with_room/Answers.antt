@@ -1,5 +1,4 @@
 -- Each answer hands its test to the law of its verdict.
-use borrow.Author.Rules.{rules}
 use Rattle.commits.proofs.Judged.{roomy_late, roomy_accepted}
 use Rattle.commits.proofs.judge_with_room.Goals as goal
 

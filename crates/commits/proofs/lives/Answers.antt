@@ -1,5 +1,4 @@
 -- `lives` judges by the snapshots and copies that a store holds.
-use borrow.Author.Rules.{rules}
 use Rattle.commits.proofs.OneWrite.{live_taken}
 use Rattle.commits.proofs.lives.Goals as goal
 

@@ -1,15 +1,14 @@
 -- `weigh` counts the objects that have no entry, and those whose write displaces a live value, whatever words the copies hold.
-use Prim.Native.Nat.{ℕ, ◌+◌, ◌-◌, ◌≤◌}
+use Prim.Native.Nat.{ℕ}
 use mathlib.Core.Path.{refl}
 use mathlib.Core.Bool.{Bool}
 use mathlib.Core.List.{List}
 use native.Mathlib.Omega.{arith}
-use lib.ListN.{length, take, get_or}
-use borrow.Author.Rules.{rules}
+use lib.ListN.{take, get_or}
 use Rattle.tables.specs.Rows.{pendings}
 use Rattle.commits.specs.Rows.{new_in, live_by, displaces_in}
 use Rattle.commits.specs.Promises.{OneReady}
-use Rattle.commits.proofs.Counting.{Counts, counts_one, counts_none, counts_all}
+use Rattle.commits.proofs.Counting.{counts_one, counts_none}
 use Rattle.commits.proofs.OneWrite.{old_at, new_none, displaces_none}
 use Rattle.commits.proofs.Writing.{object_low, ready_one}
 use Rattle.commits.proofs.weigh.Goals as goal

@@ -1,12 +1,10 @@
 -- `write_one` leaves the store that the model's write leaves: over the object's entry, or in a new row.
-use borrow.Author.Rules.{rules}
 use Rattle.commits.proofs.OneWrite.{over_room, wrote_over, new_room, wrote_new}
 use Rattle.commits.proofs.write_one.Goals as goal
 
 pub add_live-requires-clause-past_len : goal.add_live-requires-clause-past_len
 add_live-requires-clause-past_len c =
-    let a = c.args in
-    (
+    let a = c.args in (
       c.requires.past_len.0,
       over_room c.requires.one_ready a.past.now a.t a.value c.if-row-lt128.true c.pending_at-e.ensures c.close.ensures c.requires.past_len.1,
     )

@@ -1,10 +1,7 @@
 -- From the first word on, those passed are copied.
 use Prim.Native.Nat.{◌≤◌, ◌-◌}
 use mathlib.Core.Path.{◌≡◌}
-use native.Mathlib.Omega.{arith}
-use lib.ListN.{length, take, drop, length-set}
-use borrow.Author.Rules.{rules}
-use Rattle.views.proofs.Pages.{copy_more, copy_end}
+use lib.ListN.{length, take, drop}
 use Rattle.views.proofs.copy_sixteen.Given as goal
 
 abbrev pub invariant-loop-k : goal.invariant-loop-k

@@ -1,18 +1,16 @@
 -- The page's values on disk, below the past rows unless the view is current, below the pending entries. Of values, any stamps are as good.
 use Prim.Native.Nat.{ℕ, ◌*◌}
-use mathlib.Core.Path.{◌≡◌, ◌∙◌, ap}
+use mathlib.Core.Path.{◌≡◌, ◌∙◌}
 use mathlib.Core.Bool.{false}
-use mathlib.Core.List.{List, []}
-use mathlib.Core.Logic.{⊎_elim}
+use mathlib.Core.List.{List}
 use native.Mathlib.Omega.{arith}
-use lib.ListN.{length, take}
-use borrow.Author.Rules.{rules}
+use lib.ListN.{take}
 use borrow.Author.Tests.{not-true, not-false}
 use Rattle.model.specs.Store.{slot_of, pending_seen}
 use Rattle.tables.specs.Rows.{pendings, pasts}
 use Rattle.views.specs.declared.View.{View}
 use Rattle.views.specs.Views.{part_of, shows_b}
-use Rattle.views.proofs.Pages.{page_cut, page_length}
+use Rattle.views.proofs.Pages.{page_cut}
 use Rattle.views.proofs.Laying.{lay_none}
 use Rattle.views.proofs.Looks.{beneath, beneath_now, beneath_past, look_page}
 use Rattle.views.proofs.look_at.Goals as goal
