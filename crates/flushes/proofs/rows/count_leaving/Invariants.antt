@@ -14,7 +14,7 @@ use Rattle.flushes.proofs.Sharing.{leaving_start}
 use Rattle.flushes.proofs.rows.count_leaving.Given as goal
 
 abbrev pub invariant-loop-j : goal.invariant-loop-j
-invariant-loop-j l =     (l.leaving ≤ l.j) × (l.j ≤ l.k) × (l.leaving + length (kept (leaves_under l.disk l.dated l.snapshots l.rule) (drop l.j (take l.k (kept (of_page l.rule.page) (take l.n (pendings l.pending)))))) ≡ length (kept (leaves_under l.disk l.dated l.snapshots l.rule) (take l.n (pendings l.pending))))
+invariant-loop-j l = (l.leaving ≤ l.j) × (l.j ≤ l.k) × (l.leaving + length (kept (leaves_under l.disk l.dated l.snapshots l.rule) (drop l.j (take l.k (kept (of_page l.rule.page) (take l.n (pendings l.pending)))))) ≡ length (kept (leaves_under l.disk l.dated l.snapshots l.rule) (take l.n (pendings l.pending))))
 
 abbrev pub decreases-loop-j : goal.decreases-loop-j
 decreases-loop-j l = l.k - l.j

@@ -14,7 +14,7 @@ use Rattle.flushes.proofs.Sharing.{staying_start}
 use Rattle.flushes.proofs.rows.count_staying.Given as goal
 
 abbrev pub invariant-loop-j : goal.invariant-loop-j
-invariant-loop-j l =     (l.staying ≤ l.n - l.k + l.j) × (l.j ≤ l.k) × (l.staying + length (kept (stays_under l.snapshots l.rule) (drop l.j (take l.k (kept (row_of_page l.rule.page) (take l.n (pasts l.past)))))) ≡ length (kept (stays_under l.snapshots l.rule) (take l.n (pasts l.past))))
+invariant-loop-j l = (l.staying ≤ l.n - l.k + l.j) × (l.j ≤ l.k) × (l.staying + length (kept (stays_under l.snapshots l.rule) (drop l.j (take l.k (kept (row_of_page l.rule.page) (take l.n (pasts l.past)))))) ≡ length (kept (stays_under l.snapshots l.rule) (take l.n (pasts l.past))))
 
 abbrev pub decreases-loop-j : goal.decreases-loop-j
 decreases-loop-j l = l.k - l.j
