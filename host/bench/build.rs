@@ -1,4 +1,4 @@
-//! Links the proved store's static library, which `rt staticlib repository` writes, and SQLite.
+//! Links the proved store's static library, which `tools/staticlib` writes, and SQLite.
 
 fn main() {
     let here = std::env::var("CARGO_MANIFEST_DIR").expect("cargo says where the crate is");

@@ -1,6 +1,6 @@
 /* The first items of the scope document's worked night, and then a coordinator that tells the store
  * of a snapshot, through the C header. At this folder, once
- * `rt staticlib repository` has built the library; the program goes to `target` too:
+ * `tools/staticlib` has built the library; the program goes to `target` too:
  *
  *     cc -std=c99 -Wall example.c ../../target/staticlib/librepository.a -o ../../target/example
  *     ../../target/example

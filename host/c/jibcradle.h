@@ -1,7 +1,7 @@
 /* The proved store, for C and C++: one struct that holds the whole store, and twelve calls on it;
  * and the coordinator that tells the stores of snapshots, a struct and six calls.
  *
- * Link with librepository.a, which `rt staticlib repository` writes at the repository's top to
+ * Link with librepository.a, which `tools/staticlib` writes at the repository's top to
  * target/staticlib. x86-64 Linux.
  *
  * Every call takes every input: any number for a number, any bytes in a store, a journal or a

@@ -26,8 +26,8 @@ fn main() {
     // Documentation and checks need no library; only what is linked does.
     if !archive.is_file() {
         println!(
-            "cargo::warning={} isn't there, so nothing can be linked. Build it by `rt staticlib \
-             repository` at the repository's top, or name its folder by the variable JIBCRADLE_LIB.",
+            "cargo::warning={} isn't there, so nothing can be linked. Build it by `tools/staticlib` \
+             at the repository's top, or name its folder by the variable JIBCRADLE_LIB.",
             archive.display()
         );
     }

@@ -8,39 +8,39 @@ ghost use Rattle.journal.specs.Heads.{head_decoded, head_step};
 
 use crate::place::Place;
 
-#[derive(Drop)]
+#[derive(Clone, Copy)]
 pub struct CommitHead {
     pub stamp: u64,
     pub count: usize,
 }
 
-#[derive(Drop)]
+#[derive(Clone, Copy)]
 pub struct GossipHead {
     pub prev: u64,
     pub curr: u64,
     pub count: usize,
 }
 
-#[derive(Drop)]
+#[derive(Clone, Copy)]
 pub struct FlushHead {
     pub page: u64,
 }
 
-#[derive(Drop)]
+#[derive(Clone, Copy)]
 pub enum Record {
     Commit(CommitHead),
     Gossip(GossipHead),
     Flush(FlushHead),
 }
 
-#[derive(Drop)]
+#[derive(Clone, Copy)]
 pub enum Decoded {
     Good(Record),
     Bad,
 }
 
 // What the walk finds: the journal's end, a record whose bytes aren't all there, a malformed one at an offset, or a whole one.
-#[derive(Drop)]
+#[derive(Clone, Copy)]
 pub enum Step {
     End,
     Short,

@@ -1,0 +1,24 @@
+-- The join of the objects so far, with the rows from i on, tells whether some object is out of range; at the end the join alone does.
+use Prim.Native.Nat.{ℕ, ◌+◌, ◌≤◌, ◌-◌}
+use mathlib.Core.Path.{◌≡◌, refl, ◌∙◌, sym, ap}
+use native.Mathlib.Omega.{arith}
+use lib.Bits.{bit_or}
+use lib.ListN.{take}
+use borrow.Author.Rules.{rules}
+use Rattle.model.specs.declared.Pending.{Pending}
+use Rattle.model.specs.Lists.{any_b}
+use Rattle.tables.specs.Rows.{pendings}
+use Rattle.damage.proofs.Joins.{out_b, joined, join_start, join_more, join_end}
+use Rattle.damage.proofs.pending_out.Invariants.{object_of}
+use Rattle.damage.proofs.pending_out.Goals as goal
+
+pub loop-i-preserved : goal.loop-i-preserved
+loop-i-preserved c =
+    let v = c.loop-i in
+    let a = c.args in
+    let e = ap (λ row. bit_or v.objects row.object) c.pending_at-e.ensures in (
+      omega arith,
+      ap (joined object_of 9 a.n (pendings a.t.now) (v.i + 1)) e
+          ∙ join_more object_of 9 a.n (pendings a.t.now) v.i _ (omega arith) (omega arith) v.objects
+          ∙ v.invariant.1,
+    )

@@ -1,0 +1,7 @@
+-- With no rows none is dropped; else the compaction by the marks of the copies drops what is dead by the copies.
+use borrow.Author.Rules.{rules}
+use Rattle.gossips.proofs.Applying.{none_dropped, dropped}
+use Rattle.gossips.proofs.drop_rows.Goals as goal
+
+pub returns : goal.returns
+returns c = dropped _ _ _ _ _ _ c.drop_dead.new.t c.drop_dead.result c.marks_of.new.marks c.marks_of.ensures.0 c.drop_dead.ensures

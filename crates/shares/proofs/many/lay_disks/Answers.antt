@@ -1,0 +1,20 @@
+-- Each turn writes one page more.
+use Prim.Native.Nat.{ℕ, ◌+◌, ◌*◌, ◌≤◌, ◌<◌, ◌-◌}
+use mathlib.Core.Path.{◌≡◌, refl, ◌∙◌}
+use native.Mathlib.Omega.{arith}
+use lib.ListN.{length, take, drop, get_or}
+use borrow.Author.Rules.{rules}
+use Rattle.model.specs.Store.{page16, object_at}
+use Rattle.views.specs.Views.{part_of}
+use Rattle.views.proofs.Pages.{page_length}
+use Rattle.shares.proofs.Stamps.{page_size, page_under, page_more}
+use Rattle.shares.proofs.many.lay_disks.Goals as goal
+
+pub loop-j-preserved : goal.loop-j-preserved
+loop-j-preserved c = let a = c.args in
+    let v = c.loop-j in
+    let e = c.lay_disk.ensures in
+    let k = a.at + 16 * v.j + 16 - (a.at + 16 * v.j) in
+    let z : k ≡ 16 = omega arith in
+    let m : a.at + 16 * v.j + 16 ≤ length v.words = omega arith in
+    (omega arith, page_size a.at v.j k v.words e (page_length _) z m ∙ v.invariant.1, page_under a.at v.j k v.words e (page_length _) z m a.words.now v.invariant.2, page_more a.at v.j k v.words e (page_length _) z m v.invariant.3)

@@ -1,0 +1,29 @@
+-- From the last of the numbered rows to the first, each page is those passed laid over what it was.
+use Prim.Native.Nat.{ℕ, ◌≤◌, ◌-◌}
+use mathlib.Core.Path.{◌≡◌, refl}
+use mathlib.Core.List.{List, []}
+use native.Mathlib.Omega.{arith}
+use lib.ListN.{length}
+use borrow.Author.Rules.{rules}
+use lib.Dec.{leb}
+use Rattle.model.specs.Store.{slot_of, pending_seen}
+use Rattle.tables.specs.Rows.{pending_of, pendings}
+use Rattle.tables.proofs.Backward.{Turn}
+use Rattle.views.specs.Views.{part_of}
+use Rattle.shares.specs.Many.{Pages}
+use Rattle.shares.proofs.Stamps.{laid_from, numbers_start, numbers_more, numbers_end, pages_same}
+use Rattle.shares.proofs.many.lay_entries.Goals as goal
+
+pub loop-j-preserved : goal.loop-j-preserved
+loop-j-preserved c = let a = c.args in
+    let v = c.loop-j in
+    let t : Turn a.numbers.now a.k v.j = record { left = omega arith; inside = v.invariant.0; rows = c.requires.k_bound.1 } in (
+      omega arith,
+      omega arith,
+      λ f w p. pages_same (λ s. numbers_more (λ e. leb e.latest s) (λ e. slot_of e.object) (λ e. part_of a.ages (pending_seen e)) (pending_of []) (pendings a.pending.now) a.numbers.now a.k v.j t c.entry_at-e.ensures (f s)) (c.lay_entry.ensures (λ s. laid_from (λ e. leb e.latest s) (λ e. slot_of e.object) (λ e. part_of a.ages (pending_seen e)) (pending_of []) (pendings a.pending.now) a.numbers.now a.k v.j (f s)) w (v.invariant.2 f w p)),
+    )
+
+pub returns : goal.returns
+returns c = let a = c.args in
+    let v = c.loop-j in
+    λ f w p. pages_same (λ s. numbers_end (λ e. leb e.latest s) (λ e. slot_of e.object) (λ e. part_of a.ages (pending_seen e)) (pending_of []) (pendings a.pending.now) a.numbers.now a.k v.j c.loop-j-test.false (f s)) (v.invariant.2 f w p)

@@ -1,0 +1,13 @@
+-- All stamps before the last that was looked at are before it.
+use Prim.Native.Nat.{ℕ, ◌+◌, ◌≤◌, ◌<◌, ◌-◌}
+use native.Mathlib.Omega.{arith}
+use lib.ListN.{length, get_or}
+use borrow.Author.Rules.{rules}
+use Rattle.shares.proofs.Stamps.{all_before}
+use Rattle.shares.proofs.many.leap.Given as goal
+
+abbrev pub invariant-loop-k : goal.invariant-loop-k
+invariant-loop-k l = (l.k ≤ length l.stamps) × ((i : ℕ) → i < l.k → get_or l.stamps i 0 < l.stamp)
+
+abbrev pub decreases-loop-k : goal.decreases-loop-k
+decreases-loop-k l = length l.stamps - l.k
