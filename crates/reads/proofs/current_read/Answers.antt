@@ -26,17 +26,14 @@ held c =
 left : (c : Else-out_of_range) → let a = c.args in damaged (held c.before.before.before.before.before.before.before.before.before.before.before) ≡ twice_b (map (λ e. e.object) (take a.h.pending (pendings a.pending.now)))
 left c = let a = c.args in c.out_of_range.ensures.left c.if-out_of_range.false a.disk.now a.dated.now a.copied.now
 
-abbrev start2 : Else-met_again → Else-met_again
-start2 c = c.before.before.before.before.before.before.before.before.before.before.before.before.before.before
-
 -- what each test that was passed has said
-single : (c : Else-met_again) → let a = (start2 c).args in twice_b (map (λ e. e.object) (take a.h.pending (pendings a.pending.now))) ≡ false
+single : (c : Else-met_again) → let a = c.args in twice_b (map (λ e. e.object) (take a.h.pending (pendings a.pending.now))) ≡ false
 single c = sym c.met_again.ensures.0 ∙ c.if-met_again.false
 
-spared : (c : Else-met_again) → damaged (held (start2 c)) ≡ false
+spared : (c : Else-met_again) → damaged (held c.before.before.before.before.before.before.before.before.before.before.before.before.before.before) ≡ false
 spared c = left c.before.before.before ∙ single c
 
-shaped : (c : Else-not-read_shaped) → let a = (start2 c.before.before).args in read_shaped a.page a.buffer.now ≡ true
+shaped : (c : Else-not-read_shaped) → let a = c.args in read_shaped a.page a.buffer.now ≡ true
 shaped c = sym c.read_shaped.ensures ∙ c.if-not-read_shaped.false
 
 pub returns-then-out_of_range : goal.returns-then-out_of_range
@@ -56,11 +53,11 @@ returns-then-met_again c =
 
 pub returns-then-not-read_shaped : goal.returns-then-not-read_shaped
 returns-then-not-read_shaped c =
-    let a = (start2 (goal.at.returns-then-not-read_shaped c).Else-met_again).args in
-    now_misshaped (held (start2 (goal.at.returns-then-not-read_shaped c).Else-met_again)) a.page a.buffer.now (spared (goal.at.returns-then-not-read_shaped c).Else-met_again) (sym c.read_shaped.ensures ∙ c.if-not-read_shaped.true)
+    let a = c.args in
+    now_misshaped (held (goal.at.returns-then-not-read_shaped c).Start) a.page a.buffer.now (spared (goal.at.returns-then-not-read_shaped c).Else-met_again) (sym c.read_shaped.ensures ∙ c.if-not-read_shaped.true)
 
 pub returns : goal.returns
 returns c =
-    let a = (start2 (goal.at.returns c).Else-met_again).args in
-    now_done (held (start2 (goal.at.returns c).Else-met_again)) a.page a.buffer.now (spared (goal.at.returns c).Else-met_again) (shaped (goal.at.returns c).Else-not-read_shaped)
+    let a = c.args in
+    now_done (held (goal.at.returns c).Start) a.page a.buffer.now (spared (goal.at.returns c).Else-met_again) (shaped (goal.at.returns c).Else-not-read_shaped)
     (c.look_at.ensures a.dated.now a.snapshots.now a.copies.now a.copied.now)

@@ -36,4 +36,4 @@ returns c =
     let f : tie.After-first-known = search (c) in
     let a = e.before.before.before.before.before.before.before.before.before.before.args in
     knows_whole a.disk.now a.dated.now a.pending.now a.past.now a.snapshots.now a.copies.now a.copied.now a.h
-    (whole e) e.before.before.laid.ensures f.first-known.ensures
+    (whole e) e.before.before.laid.ensures f.first_known.ensures

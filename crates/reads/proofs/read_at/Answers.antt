@@ -35,7 +35,7 @@ shown : (c : After-shown_by-s)
     → let a = c.args in c.shown_by-s.result ≡ shown_by a.h.horizon (up_to 0 a.h.snapshots a.snapshots.now) a.time a.page a.buffer.now
 shown c =
     let a = c.args in
-    c.shown_by-s.ensures ∙ ap (λ ks. shown_by a.h.horizon ks a.time a.page a.buffer.now) (sym (known c.pre (fit c.before)))
+    c.shown_by-s.ensures ∙ ap (λ ks. shown_by a.h.horizon ks a.time a.page a.buffer.now) (sym (known c.requires (fit c.before)))
 
 -- past the index each object has one entry
 abbrev start4 : Else-met_again → Else-met_again
@@ -48,12 +48,12 @@ spared : (c : Else-met_again) (dated : List ℕ) → damaged (held (start4 c) da
 spared c dated = left c.before.before.before.before.before dated ∙ single c
 
 pub returns-then-out_of_range : goal.returns-then-out_of_range
-returns-then-out_of_range c =
+returns-then-out_of_range c dated =
     let a = c.args in
     read_damaged (held (goal.at.returns-then-out_of_range c).Start dated) true a.time a.page a.buffer.now (c.out_of_range.ensures.hit c.if-out_of_range.true a.disk.now dated a.copied.now)
 
 pub returns-then-h-lt2 : goal.returns-then-h-lt2
-returns-then-h-lt2 c =
+returns-then-h-lt2 c dated =
     let a = c.args in
     read_refused (held (goal.at.returns-then-h-lt2 c).Start dated) a.time a.page a.buffer.now (shown (goal.at.returns-then-h-lt2 c).After-shown_by-s)
     (left (goal.at.returns-then-h-lt2 c).Else-out_of_range dated ∙ lone a.h.pending (pendings a.pending.now) (ltb-true a.h.pending 2 c.if-h-lt2.true-raw))
@@ -64,17 +64,17 @@ met_again-requires c =
     ((fit (goal.at.met_again-requires c).Else-out_of_range).pending_count, c.requires.pending_rows, c.out_of_range.ensures.low c.if-out_of_range.false, refl, blank)
 
 pub returns-then-met_again : goal.returns-then-met_again
-returns-then-met_again c =
+returns-then-met_again c dated =
     let a = c.args in
     read_damaged (held (goal.at.returns-then-met_again c).Start dated) true a.time a.page a.buffer.now (left (goal.at.returns-then-met_again c).Else-out_of_range dated ∙ sym c.met_again.ensures.0 ∙ c.if-met_again.true)
 
 pub returns-then-s-eq0-2 : goal.returns-then-s-eq0-2
-returns-then-s-eq0-2 c =
+returns-then-s-eq0-2 c dated =
     let a = (start4 (goal.at.returns-then-s-eq0-2 c).Else-met_again).args in
     read_refused (held (start4 (goal.at.returns-then-s-eq0-2 c).Else-met_again) dated) a.time a.page a.buffer.now (shown (goal.at.returns-then-s-eq0-2 c).After-shown_by-s) (spared (goal.at.returns-then-s-eq0-2 c).Else-met_again dated) c.if-s-eq0-2.true c.refusal-then-s-eq0-2.ensures
 
 pub returns : goal.returns
-returns c =
+returns c dated =
     let a = (start4 (goal.at.returns c).Else-met_again).args in
     read_done (held (start4 (goal.at.returns c).Else-met_again) dated) a.time a.page a.buffer.now (shown (goal.at.returns c).After-shown_by-s) (spared (goal.at.returns c).Else-met_again dated) c.if-s-eq0-2.false
     (c.show_page.ensures dated a.snapshots.now)

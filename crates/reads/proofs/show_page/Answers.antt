@@ -22,16 +22,16 @@ none : (c : In-Nothing) → Serves c.before.before.before.before.before Nothing
 none c = subst (Serves c.before.before.before.before.before) c.in-Nothing.is c.serving.ensures
 
 pub returns-in-At : goal.returns-in-At
-returns-in-At c =
+returns-in-At c dated snapshots =
     let a = c.args in
-    let p = c.requires.indexed.1 in
+    let p = c.requires.copies_bound in
     c.sixteen.ensures
     ∙ shown_served a.disk.now dated a.pending.now a.past.now snapshots a.copies.now a.copied.now a.h a.page a.s p.0 p.1 p.2
     c.in-At.i (found (goal.at.returns-in-At c).In-At-2)
 
 pub returns-in-Nothing : goal.returns-in-Nothing
-returns-in-Nothing c =
+returns-in-Nothing c dated snapshots =
     let a = c.args in
-    let p = c.requires.indexed.1 in
+    let p = c.requires.copies_bound in
     c.look_at.ensures dated snapshots a.copies.now a.copied.now
     ∙ shown_looked a.disk.now dated a.pending.now a.past.now snapshots a.copies.now a.copied.now a.h a.page a.s p.0 p.1 (none (goal.at.returns-in-Nothing c).In-Nothing)

@@ -26,4 +26,4 @@ returns c =
     let a = c.args in
     stood_whole a.disk.now a.dated.now a.pending.now a.past.now a.snapshots.now a.copies.now a.copied.now a.h
     (sym (said (goal.at.returns c).After-damaged) ∙ c.if-damaged.false)
-    (to_z-of_z w64 c.lag-behind.result (record { sfits = c.lag-behind.type-inv }) ∙ c.lag-behind.ensures)
+    (to_z-of_z w64 c.lag-behind.result (record { sfits = c.lag-behind.type_inv }) ∙ c.lag-behind.ensures)
