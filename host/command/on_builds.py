@@ -14,31 +14,32 @@ from on_scripts import USAGE, lives, on_a_terminal_of, path_without, program_of,
 from on_terminals import until
 from running import PATIENCE, Program, contents, expect, put, shown
 
-# Says what rt says, and proves nothing. Files in the repository tell it to fail, to be slow, to hang, or to find a source changed.
+# Says what rt says in a crate's folder, and proves nothing. Files in the repository tell it to fail, to be slow, to hang, or to find a
+# source changed.
 RT = """
+cd ../..
 echo "$*" >>called
 sum=$(cat crates.txt crates/*/src/* | cksum)
-if [ $2 = coordinating ]; then crates='%s'; else crates='%s'; fi
-for crate in $crates; do
-    echo "fn $crate::some: proved"
-    if [ -e fails ] && [ $crate = tables ]; then echo "rt: tables NOT PROVED (exit 1, 3 s)"; echo "rt: FAILED: tables"; exit 1; fi
-    echo "rt: $crate proved (3 s)"
-done
+echo "fn $2::some: proved"
+if [ -e fails ] && [ $2 = tables ]; then echo "fn $2::other: not proved"; exit 1; fi
+echo "logic=proved functions=1"
+[ $1 = run ] || exit 0
 [ ! -e slow ] || sleep 0.7
 [ ! -e edited ] || touch crates/jibcradle/src/help.rt
-mkdir -p target/bin target/stamp
-if [ "$(cat target/stamp/$2 2>&1)" != "$sum" ]; then
-    rm -f target/stamp/$2
-    cp %s/$2 target/bin/$2
+out=crates/$2/out
+mkdir -p $out
+if [ "$(cat $out/$2.stamp 2>&1)" != "$sum" ]; then
+    rm -f $out/$2.stamp
+    cp %s/$2 $out/$2
     if [ -e hangs ]; then
         sleep 600 & echo $! >>provers
         (sleep 600 & echo $! >>provers; wait) & echo $! >>provers
         touch started
         wait
     fi
-    echo "$sum" >target/stamp/$2
+    echo "$sum" >$out/$2.stamp
 fi
-echo "rt: $2 ran, and wrote what its file 'stdout' has (0 s)"
+echo "rt: running out/$2; to give it other input, run that file yourself"
 """
 
 
@@ -52,15 +53,16 @@ class Repository:
             shutil.copy(os.path.join(self.top, name), self.file(name))
         listed = contents(self.file("crates.txt")).decode()
         self.crates, self.coordinators = crates_in_order(listed, "jibcradle"), crates_in_order(listed, "coordinating")
-        built = os.path.dirname(program_of(bench))
-        self.env = stub(bench, "rt", RT % (" ".join(self.coordinators), " ".join(self.crates), built))
+        for name in self.crates + self.coordinators:
+            os.makedirs(self.file("crates/%s/src" % name), exist_ok=True)
+        self.env = stub(bench, "rt", RT % os.path.dirname(program_of(bench)))
         self.script = Program(self.file("jibcradle"))
 
     def file(self, name):
         return os.path.join(self.path, name)
 
     def builds(self, name="jibcradle"):
-        return contents(self.file("called")).count(b"check %s\n" % name.encode())
+        return contents(self.file("called")).count(b"run %s\n" % name.encode())
 
     def run(self, data, *arguments, **options):
         return self.script.ended(data, *arguments, env=options.pop("env", self.env), **options)
@@ -108,7 +110,7 @@ def a_build_in_a_pipe(bench):
     err = repository.expect_served(1, "at first")
     expect(err.decode().split("\n") == progress(repository.crates) + [""], "the build says", shown(err))
     log = contents(repository.file("target/build.log"))
-    expect(b"fn model::some: proved\nrt: model proved (3 s)\n" in log and b"jibcradle ran" in log, "the log has", shown(log))
+    expect(b"fn model::some: proved\nlogic=proved functions=1\n" in log and b"running out/jibcradle" in log, "the log has", shown(log))
     expect(repository.expect_served(1, "then") == b"", "a second start says something")
 
 
@@ -139,9 +141,11 @@ def a_build_that_fails(bench):
         expect((status, out) == (1, b""), "a failed build gives", status, shown(out))
         last = err.decode().split("\n")[-2]
         expect(last == "jibcradle: the build failed; %s says why" % os.path.realpath(log), "the last line is", last)
-        expect(b"rt: FAILED: tables" in contents(log), "the log has", shown(contents(log)))
+        expect(b"fn tables::other: not proved" in contents(log), "the log has", shown(contents(log)))
     os.remove(repository.file("fails"))
-    repository.expect_served(3, "mended")
+    repository.expect_served(1, "mended")
+    tried = contents(repository.file("called")).count(b"lib tables\n")
+    expect(tried == 3, "the crate that failed was tried", tried, "times")
 
 
 @test
@@ -216,7 +220,7 @@ def ended_while_it_builds(bench):
         process.send_signal(number)
         expect_ended(repository, process, 128 + number, "signal %d" % number)
         process.communicate()
-    expect(os.path.exists(repository.file("target/bin/jibcradle")), "the test's own stub made no program")
+    expect(os.path.exists(repository.file("crates/jibcradle/out/jibcradle")), "the test's own stub made no program")
     os.remove(repository.file("hangs"))
     repository.expect_served(5, "after builds that were ended")
     repository.expect_served(5, "then")

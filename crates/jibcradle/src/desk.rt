@@ -66,7 +66,7 @@ fn change(
     copies: &mut CopyTable,
     copied: &mut Copied,
     journal: &mut [u8],
-    desk: Desk,
+    desk: &Desk,
     call: Call,
     firsts: &[u64; 17],
     seconds: &[u64; 17],
@@ -452,7 +452,7 @@ pub fn served(
         }
         Call::Commit(_, _) | Call::Gossip(_, _, _) | Call::Flush(_) => {
             let done = change(
-                disk, dated, pending, past, snapshots, copies, copied, journal, desk, call,
+                disk, dated, pending, past, snapshots, copies, copied, journal, &desk, call,
                 &firsts, &seconds,
             );
             settled(rt, path, journal, desk, done)

@@ -1,5 +1,5 @@
 -- The search stays between its bounds; the measure is what is left of them.
-use Rattle.std.proofs.Common.{◌≡◌, ◌≤◌, ◌-◌, length}
+use Rattle.std.proofs.Common.{◌≤◌, ◌-◌}
 use Rattle.terminal.proofs.input.newline.Given as goal
 
 abbrev pub invariant-loop-i : goal.invariant-loop-i

@@ -1,5 +1,5 @@
 -- The buffer keeps its length; the measure is the number of bytes left to move.
-use Rattle.std.proofs.Common.{◌≡◌, ◌≤◌, ◌-◌, length}
+use Rattle.std.proofs.Common.{◌≡◌, ◌-◌, length}
 use Rattle.terminal.proofs.input.shift.Given as goal
 
 abbrev pub invariant-loop-i : goal.invariant-loop-i
