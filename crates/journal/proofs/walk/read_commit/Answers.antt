@@ -1,7 +1,6 @@
 -- Each test of the code settles an answer for a commit's body; what passes them all is sound.
 use mathlib.Core.Path.{sym, ◌∙◌}
 use native.Mathlib.Omega.{arith}
-use borrow.Author.Rules.{rules}
 use Rattle.journal.proofs.Walks.{commit_missized, commit_over, commit_misshapen, commit_sound}
 use Rattle.journal.proofs.walk.read_commit.Goals as goal
 

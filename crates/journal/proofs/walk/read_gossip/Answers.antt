@@ -1,8 +1,7 @@
 -- Each test of the code settles an answer for a gossip message's body; what passes them all is sound.
 use mathlib.Core.Path.{sym, ◌∙◌}
 use native.Mathlib.Omega.{arith}
-use borrow.Author.Rules.{rules}
-use Rattle.journal.proofs.Walks.{gossip_missized, gossip_over, gossip_misshapen, gossip_sound}
+use Rattle.journal.proofs.Walks.{gossip_missized, gossip_over, gossip_sound}
 use Rattle.journal.proofs.walk.read_gossip.Goals as goal
 
 pub returns-then-count-gt16 : goal.returns-then-count-gt16

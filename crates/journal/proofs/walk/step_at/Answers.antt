@@ -2,7 +2,6 @@
 use Prim.Native.Nat.{◌+◌}
 use mathlib.Core.Path.{◌≡◌, sym, ◌∙◌}
 use native.Mathlib.Omega.{arith}
-use borrow.Author.Rules.{rules}
 use Rattle.model.specs.Records.{step_at}
 use Rattle.journal.specs.Heads.{head_step}
 use Rattle.journal.specs.declared.walk.Decoded.{Decoded}

@@ -2,7 +2,6 @@
 use Rattle.journal.proofs.Places.{reached_is, begun_fits, begun_then}
 use Rattle.model.specs.Changes.{flush}
 use native.Mathlib.Omega.{arith}
-use borrow.Author.Rules.{rules}
 use Rattle.journal.proofs.place.Place.append_flush.Goals as goal
 
 pub begun-p-requires : goal.begun-p-requires

@@ -2,7 +2,6 @@
 use Rattle.journal.proofs.Places.{reached_is, begun_fits, begun_then}
 use Rattle.model.specs.Changes.{Change, gossip}
 use native.Mathlib.Omega.{arith}
-use borrow.Author.Rules.{rules}
 use Rattle.journal.proofs.place.Place.append_gossip.Goals as goal
 use Rattle.journal.proofs.place.Place.append_gossip.Goals.{Start}
 

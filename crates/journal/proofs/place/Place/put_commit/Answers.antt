@@ -1,6 +1,5 @@
 -- `Place::put_commit` meets its contract: its fields one behind another are the commit's record.
 use Rattle.journal.proofs.Places.{left_next, left_last, commit_all}
-use borrow.Author.Rules.{rules}
 use Rattle.journal.proofs.place.Place.put_commit.Goals as goal
 
 pub returns : goal.returns

@@ -1,7 +1,6 @@
 -- `Place::put_flush` meets its contract: its fields one behind another are the flush's record.
 use Rattle.journal.proofs.Places.{left_all, left_next, left_last}
 use Rattle.model.specs.Records.{encode}
-use borrow.Author.Rules.{rules}
 use Rattle.journal.proofs.place.Place.put_flush.Goals as goal
 
 pub returns : goal.returns

@@ -1,11 +1,9 @@
 -- `Place::put_stamps` meets its contract: the stamps written, with those that are left, are the whole.
-use Rattle.journal.proofs.Places.{Left, left_all, left_next, stamps_turn, stamps_end, stamps_length}
+use Rattle.journal.proofs.Places.{Left}
 use Rattle.model.specs.Records.{stamp_bytes}
 use lib.ListN.{length, drop}
-use native.Mathlib.Omega.{arith}
 use Prim.Native.Nat.{◌≤◌, ◌-◌, ◌+◌, ◌*◌}
 use mathlib.Core.Path.{◌≡◌}
-use borrow.Author.Rules.{rules}
 use Rattle.journal.proofs.place.Place.put_stamps.Given as goal
 
 abbrev pub invariant-loop-k : goal.invariant-loop-k

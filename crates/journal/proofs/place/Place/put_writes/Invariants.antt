@@ -1,12 +1,10 @@
 -- `Place::put_writes` meets its contract: the rows written, with those that are left, are the whole.
-use Rattle.journal.proofs.Places.{Left, left_all, left_next, writes_turn, writes_end, writes_length, paired_length}
+use Rattle.journal.proofs.Places.{Left}
 use Rattle.model.specs.Records.{write_bytes}
 use Rattle.model.specs.Changes.{paired}
 use lib.ListN.{length, drop}
-use native.Mathlib.Omega.{arith}
 use Prim.Native.Nat.{◌≤◌, ◌-◌, ◌+◌, ◌*◌}
 use mathlib.Core.Path.{◌≡◌}
-use borrow.Author.Rules.{rules}
 use Rattle.journal.proofs.place.Place.put_writes.Given as goal
 
 abbrev pub invariant-loop-k : goal.invariant-loop-k
