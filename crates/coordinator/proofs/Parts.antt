@@ -6,10 +6,10 @@ use mathlib.Core.List.{List, [], ◌∷◌}
 use native.Mathlib.Omega.{arith}
 use lib.ListN.{length, take, drop, get_or, length-drop}
 use lib.Seq.{take_all, take-take, get_or-take, length-take-le}
-use lib.Dec.{ltb, leb}
+use lib.Dec.{leb}
 use borrow.Author.Tests.{leb-true, leb-false, lt-ltb, le-ltb, le-leb, lt-leb}
 use Rattle.model.specs.Lists.{pick, rising_from}
-use Rattle.model.specs.Coordinator.{stamps_in, curr_of}
+use Rattle.model.specs.Coordinator.{stamps_in}
 use Rattle.tables.proofs.Cases.{by_test}
 use Rattle.tables.proofs.Rising.{first_beyond, rest_rises}
 use Rattle.coordinator.specs.Messages.{Parted, Speaks}

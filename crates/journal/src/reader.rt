@@ -6,7 +6,7 @@ ghost use Rattle.journal.specs.Heads.{head_step};
 use crate::place::Place;
 use crate::walk::Step;
 
-#[derive(Drop)]
+#[derive(Clone, Copy)]
 pub struct Reader<'a> {
     pub journal: &'a [u8],
     pub place: Place,
@@ -35,7 +35,7 @@ pub fn after<'a>(r: Reader<'a>, place: Place) -> Reader<'a>
     }
 }
 
-// A caller of this one, whose parameters are plain, needs no walk.
+// What stands at a place of the journal, asked with slice and place apart.
 pub fn read_at(s: &[u8], p: Place) -> Step
     ensures { result ≡ head_step (step_at s.now p.at) }
 {

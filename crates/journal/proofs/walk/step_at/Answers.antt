@@ -1,0 +1,46 @@
+-- The length is judged first, then that the bytes are there, then the record. Each answer of the code is one of the model's.
+use Prim.Native.Nat.{◌+◌}
+use mathlib.Core.Path.{◌≡◌, sym, ◌∙◌}
+use native.Mathlib.Omega.{arith}
+use Rattle.model.specs.Records.{step_at}
+use Rattle.journal.specs.Heads.{head_step}
+use Rattle.journal.specs.declared.walk.Decoded.{Decoded}
+use Rattle.journal.proofs.Walks.{at_end, at_torn, at_small, at_large, at_cut, at_read, told_step}
+use Rattle.journal.proofs.walk.step_at.Goals as goal
+use Rattle.journal.proofs.walk.step_at.Goals.{After-read_record}
+
+pub returns-then-s-at : goal.returns-then-s-at
+returns-then-s-at c = at_end c.args.s.now c.args.p.at (omega arith)
+
+pub returns-then-left-lt2 : goal.returns-then-left-lt2
+returns-then-left-lt2 c =
+    let a = c.args in
+    at_torn a.s.now a.p.at (omega arith) (omega arith)
+
+pub returns-then-length-lt2 : goal.returns-then-length-lt2
+returns-then-length-lt2 c =
+    let a = c.args in
+    at_small a.s.now a.p.at c.get_be-length.ensures (omega arith) (omega arith)
+
+pub returns-then-length-gt170 : goal.returns-then-length-gt170
+returns-then-length-gt170 c =
+    let a = c.args in
+    at_large a.s.now a.p.at c.get_be-length.ensures (omega arith) (omega arith)
+
+pub returns-then-left-length : goal.returns-then-left-length
+returns-then-left-length c =
+    let a = c.args in
+    at_cut a.s.now a.p.at c.get_be-length.ensures (omega arith) (omega arith) (omega arith) (omega arith)
+
+-- what is told of a record once it is read
+read : {x : Decoded} (c : After-read_record) → c.read_record.result ≡ x
+    → told_step x c.args.p.at (c.args.p.at + 2 + c.get_be-length.result) ≡ head_step (step_at c.args.s.now c.args.p.at)
+read c e =
+    let a = c.args in
+    at_read a.s.now a.p.at c.get_be-length.ensures (omega arith) (omega arith) (omega arith) (omega arith) (sym e ∙ c.read_record.ensures)
+
+pub returns-in-Good : goal.returns-in-Good
+returns-in-Good c = read (goal.at.returns-in-Good c).After-read_record c.in-Good.is
+
+pub returns-in-Bad : goal.returns-in-Bad
+returns-in-Bad c = read (goal.at.returns-in-Bad c).After-read_record c.in-Bad.is
