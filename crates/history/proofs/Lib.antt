@@ -25,6 +25,7 @@ pub mod Latest
 pub mod Told
 pub mod Answered
 pub mod Shown
+pub mod Listed
 pub mod Unaltered
 pub mod Steady
 pub mod Restarts

@@ -7,7 +7,6 @@ use native.Mathlib.Omega.{arith}
 use lib.ListN.{length}
 use borrow.Author.Tests.{lt-ltb, eq-eqb}
 use Rattle.model.specs.declared.Answer.TheVariants.{Done, Ahead, NoSnapshot}
-use Rattle.model.specs.Lists.{elem_b}
 use Rattle.model.specs.Answers.{code_of, number_of}
 use Rattle.model.specs.Store.{object_at, page16, page_as_of}
 use Rattle.model.specs.Changes.{Change}
@@ -71,17 +70,6 @@ module _ (h : List Change) (g : AllAccepted h) where
         answer_done (replay h) (never_damaged h g) true p buffer good_page time (omega arith) (omega arith)
         ∙ ap (λ x. record { answer = Done x; buffer = page_as_of (replay h) p x }) q
         ∙ ap (λ l. record { answer = Done s; buffer = l }) (page_latest h g p s b (known_told h g s ∙ w.told))
-
-    -- the same by the store's own list: with a known snapshot u at or before the time, the largest such is read
-    pub read_largest : (time u : ℕ) → time ≤ (replay h).horizon → elem_b u (replay h).snapshots ≡ true → u ≤ time
-        → snapshot_read (replay h) time p buffer
-        ≡ record {
-          answer = Done (largest time (replay h).snapshots);
-          buffer = page16 (λ k. (latest h (object_at p k) (largest time (replay h).snapshots)).value);
-        }
-    read_largest time u l e m =
-        let q = horizon_told h in
-        read_shows time (largest time (replay h).snapshots) (omega arith) (largest_newest time (largest_stands h g time u e m).0)
 
     -- it answers Done in no other case
     pub read_done : (time s : ℕ) → (snapshot_read (replay h) time p buffer).answer ≡ Done s → (time ≤ horizon_of h) × Newest h time s
