@@ -12,4 +12,4 @@ pub returns : goal.returns
 returns c = let a = c.args in
     let e = c.archive.ensures in
     applied a.disk.now a.dated.now a.pending.now a.past.now a.snapshots.now a.copies.now a.copied.now a.h a.page c.requires.ready c.requires.copied_len.1.lists c.requires.copied_len.2
-    c.drop_rows-rest.ensures e.0 e.1 c.bury-rows.ensures c.settle-left.ensures
+    c.drop_rows-rest.ensures e.copied_after e.copies_len_2 c.bury-rows.ensures c.settle-left.ensures

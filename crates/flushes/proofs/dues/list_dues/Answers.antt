@@ -50,7 +50,7 @@ listed c =
     let g = c.first_from-high.ensures in
     let i : n - 1 ≤ length l = omega (arith, whole c) in
     let y = first_inside (n - 1) l i g in
-    dues_to_last a.disk.now a.dated.now a.pending.now a.past.now a.h a.page c.requires.lookable l n (n - 1) (some c) (whole c) c.requires.snapshots_bound.3 a.marked w.0 w.1 f g (take (count c) (list c))
+    dues_to_last a.disk.now a.dated.now a.pending.now a.past.now a.h a.page c.requires.lookable l n (n - 1) (some c) (whole c) c.requires.snapshots_bound.3 a.marked w.still w.by_index f g (take (count c) (list c))
     (c.list_between-k.ensures.by_index a.marked (λ j q r. omega (arith, first_behind (n - 1) l i f j q (omega arith))))
 
 -- the current ages tell whether the last one is due
