@@ -1,0 +1,12 @@
+-- The words passed are 0.
+use Prim.Native.Nat.{ℕ, ◌≤◌, ◌<◌, ◌-◌}
+use mathlib.Core.Path.{◌≡◌}
+use native.Mathlib.Omega.{arith}
+use lib.ListN.{length, get_or, length-set}
+use borrow.Author.Rules.{rules}
+use Rattle.tables.proofs.Marks.{clear_more}
+use Rattle.restart.proofs.Zeros.{all_zeros}
+use Rattle.restart.proofs.empty.clear.Goals as goal
+
+pub returns : goal.returns
+returns c = let v = c.loop-i in all_zeros v.words v.i v.invariant.1 (omega arith) v.invariant.2

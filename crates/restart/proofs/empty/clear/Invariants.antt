@@ -1,0 +1,15 @@
+-- The words passed are 0.
+use Prim.Native.Nat.{ℕ, ◌≤◌, ◌<◌, ◌-◌}
+use mathlib.Core.Path.{◌≡◌}
+use native.Mathlib.Omega.{arith}
+use lib.ListN.{length, get_or, length-set}
+use borrow.Author.Rules.{rules}
+use Rattle.tables.proofs.Marks.{clear_more}
+use Rattle.restart.proofs.Zeros.{all_zeros}
+use Rattle.restart.proofs.empty.clear.Given as goal
+
+abbrev pub invariant-loop-i : goal.invariant-loop-i
+invariant-loop-i l = (l.i ≤ 512) × (length l.words ≡ 512) × ((k : ℕ) → k < l.i → get_or l.words k 0 ≡ 0)
+
+abbrev pub decreases-loop-i : goal.decreases-loop-i
+decreases-loop-i l = 512 - l.i

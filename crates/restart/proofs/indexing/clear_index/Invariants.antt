@@ -1,0 +1,14 @@
+-- The objects passed have 128.
+use Prim.Native.Nat.{ℕ, ◌≤◌, ◌<◌, ◌-◌}
+use mathlib.Core.Path.{◌≡◌}
+use native.Mathlib.Omega.{arith}
+use lib.ListN.{length, get_or, length-set}
+use borrow.Author.Rules.{rules}
+use Rattle.restart.proofs.Entered.{clear_more, clear_all}
+use Rattle.restart.proofs.indexing.clear_index.Given as goal
+
+abbrev pub invariant-loop-i : goal.invariant-loop-i
+invariant-loop-i l = (l.i ≤ 512) × (length l.index ≡ 512) × ((k : ℕ) → k < l.i → get_or l.index k 128 ≡ 128)
+
+abbrev pub decreases-loop-i : goal.decreases-loop-i
+decreases-loop-i l = 512 - l.i

@@ -1,0 +1,62 @@
+-- What is left of the walk, from the store that the tables hold, is the whole walk.
+use borrow.Author.Rules.{rules}
+use Prim.Native.Nat.{◌-◌}
+use mathlib.Core.Path.{◌≡◌, refl, ap, sym, ◌∙◌}
+use native.Mathlib.Omega.{arith}
+use borrow.Author.Tests.{not-true, not-false}
+use lib.ListN.{length, take}
+use Rattle.model.specs.Store.{Store, fresh}
+use Rattle.model.specs.Records.{step_at}
+use Rattle.model.specs.Restart as model
+use Rattle.journal.specs.Heads.{head_step}
+use Rattle.journal.specs.declared.walk.Step.TheVariants.{Whole}
+use Rattle.tables.specs.Rows.{pendings}
+use Rattle.restart.specs.Turns.{Follows}
+use Rattle.restart.proofs.Entered.{blank_at}
+use Rattle.restart.proofs.Standing.{stands}
+use Rattle.restart.proofs.Holding.{fresh_held, fresh_indexed}
+use Rattle.restart.proofs.Following.{follows_as, indexed_follows}
+use Rattle.restart.proofs.Walking.{Walking, moves_on, walked_end, walked_short, walked_malformed, walked_contradicts, walked_on}
+use Rattle.restart.proofs.walk.walk.Goals as goal
+use Rattle.restart.proofs.walk.walk.Goals.{In-Whole-2}
+
+pub loop-offset-init : goal.loop-offset-init
+loop-offset-init c =
+    let a = c.args in
+    let j = a.journal.now in
+    let e = c.wipe-heads.ensures.0 a.pending.now a.past.now a.snapshots.now a.copies.now a.copied.now in (
+      record { fuel = length j; enough = omega arith; held = fresh_held c.requires e c.wipe-heads.ensures.1; rest = ap (model.walk (length j) j 1) e },
+      indexed_follows (fresh_indexed c.wipe-heads.result.pending (pendings a.pending.now) (ap (λ (st : Store). st.pending) e) refl (blank_at 512)),
+      refl,
+      refl,
+    )
+
+pub returns-in-End : goal.returns-in-End
+returns-in-End c = walked_end c.loop-offset.invariant.0 (sym c.read_at.ensures ∙ c.in-End.is) c.done.ensures
+
+pub returns-in-Short : goal.returns-in-Short
+returns-in-Short c = walked_short c.loop-offset.invariant.0 (sym c.read_at.ensures ∙ c.in-Short.is) c.done-in-Short.ensures
+
+pub returns-in-Malformed : goal.returns-in-Malformed
+returns-in-Malformed c = let v = c.loop-offset in
+    walked_malformed v.invariant.0 (sym c.read_at.ensures ∙ c.in-Malformed.is) (c.start.ensures v.pending v.past v.snapshots v.copies v.copied)
+
+-- the record that is read, from the arguments of its replay, and the that.before.before.before reads it
+there : (c : In-Whole-2)
+    → head_step (step_at c.args.journal.now c.loop-offset.at) ≡ Whole c.«record».given.0.0 c.«record».given.0.1.0
+there c = sym c.read_at.ensures ∙ c.«record».given.1
+
+pub returns-then-not-r : goal.returns-then-not-r
+returns-then-not-r c =
+    walked_contradicts c.loop-offset.invariant.0 (there (goal.at.returns-then-not-r c).In-Whole-2) c.replay-r.ensures.carried c.if-not-r.fact (c.start-then-not-r.ensures _ _ _ _ _)
+
+pub loop-offset-smaller : goal.loop-offset-smaller
+loop-offset-smaller c =
+    let r = read (goal.at.loop-offset-smaller c).After-values-1 in
+    let m = moves_on r.before.before.before.before.before.before.before.before.args.journal.now r.before.before.before.loop.at fresh (there r) in
+    omega (arith, m.0, m.1)
+
+pub loop-offset-preserved : goal.loop-offset-preserved
+loop-offset-preserved c =
+    let e = c.replay-r.ensures in
+    (walked_on c.loop-offset.invariant.0 (there (goal.at.loop-offset-preserved c).In-Whole-2) e.0 c.if-not-r.fact, follows_as e.1.0 (sym c.indexed_after-indexed.ensures), e.1.1.0, e.1.1.1)
