@@ -1,8 +1,8 @@
 -- One turn of each loop over big-endian bytes, over the width.
 use Prim.Native.Nat.{ℕ, zero, suc, ◌+◌, ◌*◌, ◌/◌, ◌%◌, ◌^◌, ◌-◌, ◌<◌, ◌≤◌}
-use mathlib.Core.Path.{◌≡◌, refl, ap, sym, ◌∙◌, subst}
+use mathlib.Core.Path.{◌≡◌, refl, ap, sym, ◌∙◌}
 use mathlib.Core.List.{List, [], ◌∷◌, ◌++◌, append_assoc, append-nil}
-use native.Mathlib.Nat.{div-add-mod', pow-suc, add-suc, add-zero, not-suc-le-zero, pow-le-pow_right, mul-suc, mul-zero, mul-le-mul_left}
+use native.Mathlib.Nat.{pow-suc, add-suc, add-zero, not-suc-le-zero, pow-le-pow_right, mul-suc, mul-zero, mul-le-mul_left}
 use native.Mathlib.Numerals.{add-one}
 use native.Mathlib.Omega.{arith}
 use lib.ListN.{length, take, drop, get_or, set, length-append, length-set, take-append-drop, length-drop, length-take, drop_of_length-le}

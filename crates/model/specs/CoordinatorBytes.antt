@@ -1,6 +1,6 @@
 -- Document 02, request [1], "one fresh coordinator only": a coordinator that forgot what it granted would be another one. So its state
 -- is kept as bytes, and it is started again from them.
-use Rattle.std.specs.Prelude.{ℕ, zero, suc, ◌+◌, ◌*◌, not, List, [], ◌∷◌, ◌++◌, length, take, drop, get_or, ltb, eqb}
+use Rattle.std.specs.Prelude.{ℕ, suc, ◌+◌, ◌*◌, not, List, [], ◌∷◌, ◌++◌, length, take, drop, get_or, ltb, eqb}
 use Rattle.model.specs.declared.Answer.{Answer}
 use Rattle.model.specs.declared.Answer.TheVariants.{Done, Damaged, Shape, Version, Malformed}
 use Rattle.model.specs.Lists.{either, pick, rising_from}

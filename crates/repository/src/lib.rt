@@ -25,7 +25,7 @@ pub struct Store {
 
 // What a change or a start answers: the paper's code and number, and the place for the next call.
 #[repr(C)]
-#[derive(Drop)]
+#[derive(Clone, Copy)]
 pub struct Moved {
     pub code: u64,
     pub number: u64,
@@ -34,7 +34,7 @@ pub struct Moved {
 
 // What a read, a request and a coordinator's call answer: the paper's code and number.
 #[repr(C)]
-#[derive(Drop)]
+#[derive(Clone, Copy)]
 pub struct Reply {
     pub code: u64,
     pub number: u64,
@@ -42,7 +42,7 @@ pub struct Reply {
 
 // What standing answers: the paper's code and number, and the five figures.
 #[repr(C)]
-#[derive(Drop)]
+#[derive(Clone, Copy)]
 pub struct Report {
     pub code: u64,
     pub number: u64,
@@ -55,7 +55,7 @@ pub struct Report {
 
 // What known answers: the paper's code and number, the horizon, the last commit, and the known snapshots: how many, and each, with zeros behind them.
 #[repr(C)]
-#[derive(Drop)]
+#[derive(Clone, Copy)]
 pub struct Knowledge {
     pub code: u64,
     pub number: u64,

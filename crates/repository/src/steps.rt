@@ -14,7 +14,7 @@ use model::Answer;
 use tables::{Copied, CopyTable, Disk, Heads, PastTable, PendingTable, Snapshots};
 
 // What a change or a start hands back: the heads, and what the caller is told.
-#[derive(Drop)]
+#[derive(Clone, Copy)]
 pub struct Step {
     pub heads: Heads,
     pub moved: Moved,

@@ -2,7 +2,7 @@
 use Rattle.std.specs.Prelude.{ℕ, ◌≤◌, ◌≡◌, List, [], length}
 use Rattle.model.specs.Store.{Store}
 use Rattle.tables.specs.declared.Heads.{Heads}
-use Rattle.tables.specs.Rows.{pending_of, past_of, copy_head_of, pendings, pasts, copy_heads, copies_of, up_to}
+use Rattle.tables.specs.Rows.{pending_of, past_of, pendings, pasts, copy_heads, copies_of, up_to}
 
 abbrev pub contents : List ℕ → List ℕ → List (List ℕ) → List (List ℕ) → List ℕ → List (List ℕ) → List ℕ → Heads → Store
 contents values stamps pending past snapshots copies copied h = record {

@@ -1,16 +1,12 @@
 -- The join of the pages so far, with the copies from i on, tells whether some page is out of range, whatever words the copies hold.
-use Prim.Native.Nat.{ℕ, ◌+◌, ◌≤◌, ◌-◌}
-use mathlib.Core.Path.{◌≡◌, refl, ◌∙◌, sym, ap}
+use Prim.Native.Nat.{ℕ, ◌≤◌, ◌-◌}
+use mathlib.Core.Path.{◌≡◌}
 use mathlib.Core.List.{List}
-use native.Mathlib.Omega.{arith}
-use lib.Bits.{bit_or}
-use lib.ListN.{length, take}
-use borrow.Author.Rules.{rules}
+use lib.ListN.{take}
 use Rattle.model.specs.Store.{Copy}
 use Rattle.model.specs.Lists.{any_b}
 use Rattle.tables.specs.Rows.{copy_heads, copies_of}
-use Rattle.tables.proofs.Copies.{no_copy, copy_of, copies_of_length, copy_page}
-use Rattle.damage.proofs.Joins.{out_b, joined, join_start, join_more, join_end}
+use Rattle.damage.proofs.Joins.{out_b, joined}
 use Rattle.damage.proofs.copies_out.Given as goal
 
 abbrev pub page_of : Copy → ℕ

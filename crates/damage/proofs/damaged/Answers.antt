@@ -1,9 +1,6 @@
 -- Past the tests of the ranges, damage is two entries of one object, and the index is of no further use here.
-use mathlib.Core.Path.{refl, sym, ◌∙◌}
-use borrow.Author.Rules.{rules}
+use mathlib.Core.Path.{refl}
 use Rattle.rules.proofs.Marks.{blank_at}
-use Rattle.tables.specs.Rows.{pendings}
-use Rattle.damage.proofs.Laws.{lone}
 use Rattle.damage.proofs.damaged.Goals as goal
 
 pub met_again-requires : goal.met_again-requires

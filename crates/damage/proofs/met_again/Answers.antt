@@ -1,21 +1,15 @@
 -- An entry whose object is in the index brings fresh below 128, where it stays; until then every object was new, and the index tells of them all.
-use Prim.Native.Nat.{ℕ, ◌≤◌, ◌<◌, ◌-◌}
+use Prim.Native.Nat.{◌<◌}
 use mathlib.Core.Path.{◌≡◌, refl, ◌∙◌, sym, ap}
-use mathlib.Core.Bool.{Bool, true}
-use mathlib.Core.List.{List}
-use mathlib.Core.Logic.{◌⊎◌, inl, inr, ⊎_elim}
+use mathlib.Core.Logic.{inl, inr, ⊎_elim}
 use native.Mathlib.Omega.{arith}
 use lib.Bits.{and_le_l, and_le_r}
-use lib.Dec.{ltb}
-use lib.ListN.{length, drop, take, get_or}
+use lib.ListN.{length, get_or}
 use borrow.Author.Tests.{lt-ltb, ltb-true, ltb-false}
-use borrow.Author.Rules.{rules}
-use Rattle.model.specs.Lists.{twice_b}
-use Rattle.rules.proofs.Marks.{again, again_start, again_met, again_new, again_end}
+use Rattle.rules.proofs.Marks.{again_start, again_met, again_new}
 use Rattle.tables.specs.Rows.{pendings}
-use Rattle.tables.specs.Lookups.{Indexed}
 use Rattle.damage.proofs.Laws.{Turn, objects_of, objects_length, object_at_lem, object_low}
-use Rattle.tables.proofs.Cases.{by_test, clash}
+use Rattle.tables.proofs.Cases.{by_test}
 use Rattle.tables.proofs.Indexing.{any_default, index_start, row_none, index_more}
 use Rattle.damage.proofs.met_again.Invariants.{marks, New, Met}
 use Rattle.damage.proofs.met_again.Goals as goal

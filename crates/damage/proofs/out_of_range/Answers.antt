@@ -3,12 +3,9 @@ use Prim.Native.Nat.{ℕ}
 use mathlib.Core.Path.{◌≡◌, refl, ◌∙◌, sym, ap}
 use mathlib.Core.Bool.{Bool, false, not}
 use mathlib.Core.List.{List}
-use native.Mathlib.Omega.{arith}
 use lib.ListN.{take}
 use lib.Dec.{leb}
-use lib.Seq.{length-take-le}
 use borrow.Author.Tests.{not-false}
-use borrow.Author.Rules.{rules}
 use Rattle.model.specs.Lists.{either, any_b}
 use Rattle.model.specs.Damage.{damaged}
 use Rattle.model.specs.Store.{Store}

@@ -1,14 +1,10 @@
 -- The join of the objects so far, with the rows from i on, tells whether some object is out of range; at the end the join alone does.
-use Prim.Native.Nat.{ℕ, ◌+◌, ◌≤◌, ◌-◌}
-use mathlib.Core.Path.{◌≡◌, refl, ◌∙◌, sym, ap}
+use Prim.Native.Nat.{◌+◌}
+use mathlib.Core.Path.{◌∙◌, ap}
 use native.Mathlib.Omega.{arith}
 use lib.Bits.{bit_or}
-use lib.ListN.{take}
-use borrow.Author.Rules.{rules}
-use Rattle.model.specs.declared.Past.{Past}
-use Rattle.model.specs.Lists.{any_b}
 use Rattle.tables.specs.Rows.{pasts}
-use Rattle.damage.proofs.Joins.{out_b, joined, join_start, join_more, join_end}
+use Rattle.damage.proofs.Joins.{joined, join_more}
 use Rattle.damage.proofs.past_out.Invariants.{object_of}
 use Rattle.damage.proofs.past_out.Goals as goal
 

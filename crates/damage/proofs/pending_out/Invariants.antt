@@ -1,14 +1,11 @@
 -- The join of the objects so far, with the rows from i on, tells whether some object is out of range; at the end the join alone does.
-use Prim.Native.Nat.{ℕ, ◌+◌, ◌≤◌, ◌-◌}
-use mathlib.Core.Path.{◌≡◌, refl, ◌∙◌, sym, ap}
-use native.Mathlib.Omega.{arith}
-use lib.Bits.{bit_or}
+use Prim.Native.Nat.{ℕ, ◌≤◌, ◌-◌}
+use mathlib.Core.Path.{◌≡◌}
 use lib.ListN.{take}
-use borrow.Author.Rules.{rules}
 use Rattle.model.specs.declared.Pending.{Pending}
 use Rattle.model.specs.Lists.{any_b}
 use Rattle.tables.specs.Rows.{pendings}
-use Rattle.damage.proofs.Joins.{out_b, joined, join_start, join_more, join_end}
+use Rattle.damage.proofs.Joins.{out_b, joined}
 use Rattle.damage.proofs.pending_out.Given as goal
 
 abbrev pub object_of : Pending → ℕ

@@ -1,10 +1,8 @@
 -- `fields::get_be` meets its contract: the bytes read so far, with those that are left, make the number; so many bytes have room in a u64.
-use borrow.Author.Rules.{rules}
-use Prim.Native.Nat.{ℕ, suc, ◌≤◌, ◌<◌, ◌-◌, ◌+◌, ◌*◌, ◌^◌}
+use Prim.Native.Nat.{◌<◌, ◌+◌, ◌*◌, ◌^◌}
 use native.Mathlib.Omega.{arith}
-use mathlib.Core.Path.{◌≡◌, refl, ◌∙◌, sym, ap}
-use lib.ListN.{take, drop, length, get_or}
-use Rattle.model.specs.Bytes.{from_be, from_be_after}
+use mathlib.Core.Path.{◌∙◌, sym}
+use lib.ListN.{get_or}
 use Rattle.fields.proofs.Laws.{room, get_turn, get_end}
 use Rattle.fields.proofs.get_be.Goals as goal
 use Rattle.fields.proofs.get_be.Goals.{After-shared_slice_known-1}

@@ -1,11 +1,9 @@
 -- `fields::get_column` meets its contract: what is filled, with what is left to read, is the whole column.
 use Rattle.fields.proofs.Laws.{column_start, column_turn, column_end, column_fits}
-use Rattle.model.specs.Bytes.{column}
-use lib.ListN.{take, drop, length, length-set}
+use lib.ListN.{length, length-set}
 use native.Mathlib.Omega.{arith}
-use mathlib.Core.List.{◌++◌}
-use mathlib.Core.Path.{◌≡◌, ◌∙◌, refl}
-use Prim.Native.Nat.{◌≤◌, ◌-◌, ◌+◌, ◌*◌}
+use mathlib.Core.Path.{◌∙◌, refl}
+use Prim.Native.Nat.{◌≤◌, ◌+◌, ◌*◌}
 use borrow.Author.Rules.{rules}
 use Rattle.fields.proofs.get_column.Goals as goal
 use Rattle.fields.proofs.get_column.Goals.{In-loop-i}

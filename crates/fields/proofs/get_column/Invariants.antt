@@ -1,12 +1,9 @@
 -- `fields::get_column` meets its contract: what is filled, with what is left to read, is the whole column.
-use Rattle.fields.proofs.Laws.{column_start, column_turn, column_end, column_fits}
 use Rattle.model.specs.Bytes.{column}
-use lib.ListN.{take, drop, length, length-set}
-use native.Mathlib.Omega.{arith}
+use lib.ListN.{take, drop, length}
 use mathlib.Core.List.{◌++◌}
-use mathlib.Core.Path.{◌≡◌, ◌∙◌, refl}
+use mathlib.Core.Path.{◌≡◌}
 use Prim.Native.Nat.{◌≤◌, ◌-◌, ◌+◌, ◌*◌}
-use borrow.Author.Rules.{rules}
 use Rattle.fields.proofs.get_column.Given as goal
 
 abbrev pub invariant-loop-i : goal.invariant-loop-i

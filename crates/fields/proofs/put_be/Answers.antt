@@ -1,10 +1,7 @@
 -- `fields::put_be` meets its contract: the low bytes are in place, and the rest of the number is still to be written before them.
-use borrow.Author.Rules.{rules}
-use Prim.Native.Nat.{ℕ, suc, ◌≤◌, ◌-◌, ◌+◌}
 use native.Mathlib.Omega.{arith}
-use mathlib.Core.Path.{◌≡◌, refl, ◌∙◌, sym, ap}
-use lib.ListN.{take, drop, length, length-set}
-use Rattle.model.specs.Bytes.{be, write_at}
+use mathlib.Core.Path.{◌∙◌, sym}
+use lib.ListN.{length-set}
 use Rattle.fields.proofs.Laws.{put_turn, put_none}
 use Rattle.fields.proofs.put_be.Goals as goal
 

@@ -1,11 +1,8 @@
 -- `fields::put_be` meets its contract: the low bytes are in place, and the rest of the number is still to be written before them.
-use borrow.Author.Rules.{rules}
-use Prim.Native.Nat.{ℕ, suc, ◌≤◌, ◌-◌, ◌+◌}
-use native.Mathlib.Omega.{arith}
-use mathlib.Core.Path.{◌≡◌, refl, ◌∙◌, sym, ap}
-use lib.ListN.{take, drop, length, length-set}
+use Prim.Native.Nat.{◌≤◌}
+use mathlib.Core.Path.{◌≡◌}
+use lib.ListN.{length}
 use Rattle.model.specs.Bytes.{be, write_at}
-use Rattle.fields.proofs.Laws.{put_turn, put_none}
 use Rattle.fields.proofs.put_be.Given as goal
 
 abbrev pub invariant-loop-k : goal.invariant-loop-k

@@ -1,14 +1,10 @@
 -- A stamp at or below the one before makes them not rising; at the end the last one tells whether all are at most curr.
 -- The loop's invariant: the places from i on, with the stamp before them, give the answer of them all where those so far rise.
 use Prim.Native.Nat.{◌≤◌, ◌-◌}
-use mathlib.Core.Path.{◌≡◌, ◌∙◌, sym, ap}
-use mathlib.Core.Logic.{⊎_elim}
-use native.Mathlib.Omega.{arith}
+use mathlib.Core.Path.{◌≡◌}
 use lib.ListN.{length, drop}
-use borrow.Author.Tests.{le-leb, not-true, not-false}
-use borrow.Author.Rules.{rules}
 use Rattle.model.specs.Lists.{both}
-use Rattle.rules.proofs.Laws.{within, bounded, bounded_low, bounded_next, bounded_end}
+use Rattle.rules.proofs.Laws.{within, bounded}
 use Rattle.rules.proofs.ascending_within.Given as goal
 
 abbrev pub invariant-loop-i : goal.invariant-loop-i

@@ -1,7 +1,6 @@
 -- Fewer than two objects settle it; else, at the start no object is marked.
 use mathlib.Core.Path.{refl, sym}
 use mathlib.Core.Bool.{false}
-use borrow.Author.Rules.{rules}
 use Rattle.rules.proofs.Marks.{blank_at, few_once}
 use Rattle.rules.proofs.named_twice.Goals as goal
 

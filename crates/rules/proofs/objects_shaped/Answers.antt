@@ -2,7 +2,6 @@
 use native.Mathlib.Omega.{arith}
 use lib.ListN.{length}
 use borrow.Author.Tests.{le-leb, lt-leb}
-use borrow.Author.Rules.{rules}
 use Rattle.model.specs.Judgement.{objects_shaped}
 use Rattle.rules.proofs.objects_shaped.Goals as goal
 

@@ -2,7 +2,6 @@
 use native.Mathlib.Omega.{arith}
 use lib.ListN.{length}
 use borrow.Author.Tests.{le-leb, lt-leb}
-use borrow.Author.Rules.{rules}
 use Rattle.model.specs.Judgement.{stamps_shaped}
 use Rattle.rules.proofs.stamps_shaped.Goals as goal
 

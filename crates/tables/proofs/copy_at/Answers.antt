@@ -1,5 +1,4 @@
 -- The row read is the list's copy head at the index.
-use borrow.Author.Rules.{rules}
 use Rattle.tables.proofs.Rows.{copy_read}
 use Rattle.tables.proofs.copy_at.Goals as goal
 

@@ -1,5 +1,4 @@
 -- The row written is the list's entry at the one index, and is the entry read at the other.
-use borrow.Author.Rules.{rules}
 use Rattle.tables.proofs.Rows.{pending_move}
 use Rattle.tables.proofs.move_pending.Goals as goal
 

@@ -1,5 +1,4 @@
 -- The row read is the list's past value at the index.
-use borrow.Author.Rules.{rules}
 use Rattle.tables.proofs.Rows.{past_read}
 use Rattle.tables.proofs.past_at.Goals as goal
 

@@ -1,5 +1,4 @@
 -- The row read is the list's entry at the index.
-use borrow.Author.Rules.{rules}
 use Rattle.tables.proofs.Rows.{pending_read}
 use Rattle.tables.proofs.pending_at.Goals as goal
 

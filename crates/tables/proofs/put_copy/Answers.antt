@@ -1,5 +1,4 @@
 -- The row written is the list's copy head at the index, and no other.
-use borrow.Author.Rules.{rules}
 use Rattle.tables.proofs.Rows.{copy_put}
 use Rattle.tables.proofs.put_copy.Goals as goal
 

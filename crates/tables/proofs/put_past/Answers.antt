@@ -1,5 +1,4 @@
 -- The row written is the list's past value at the index, and no other.
-use borrow.Author.Rules.{rules}
 use Rattle.tables.proofs.Rows.{past_put}
 use Rattle.tables.proofs.put_past.Goals as goal
 

@@ -1,5 +1,4 @@
 -- The row written is the list's entry at the index, and no other.
-use borrow.Author.Rules.{rules}
 use Rattle.tables.proofs.Rows.{pending_put}
 use Rattle.tables.proofs.put_pending.Goals as goal
 

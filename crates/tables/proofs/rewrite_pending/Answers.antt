@@ -1,5 +1,4 @@
 -- The row written is the list's entry at the index with another stamp and value, and no other.
-use borrow.Author.Rules.{rules}
 use Rattle.tables.proofs.Rows.{pending_rewrite}
 use Rattle.tables.proofs.rewrite_pending.Goals as goal
 

@@ -1,11 +1,8 @@
 -- A look from the first choice on: all stay where those not looked at yet do.
 use Prim.Native.Nat.{◌≤◌, ◌-◌}
-use mathlib.Core.Path.{◌≡◌, refl, ◌∙◌}
-use native.Mathlib.Omega.{arith}
+use mathlib.Core.Path.{◌≡◌}
 use lib.ListN.{length, take, drop}
-use borrow.Author.Rules.{rules}
-use borrow.Author.Tests.{not-true, not-false}
-use Rattle.tables.proofs.Blocks.{all_of, all_yes, all_no, all_end}
+use Rattle.tables.proofs.Blocks.{all_of}
 use Rattle.tables.proofs.dropping.all_stay.Given as goal
 
 abbrev pub invariant-loop-i : goal.invariant-loop-i

@@ -1,7 +1,7 @@
 -- One turn: the row is looked at, put at place k, and k goes on where it stays.
-use Rattle.std.proofs.Common.{◌≡◌, ◌+◌, ◌<◌, length, arith, rules, sym, subst}
+use Rattle.std.proofs.Common.{◌≡◌, ◌+◌, length, arith, rules, sym, subst}
 use Rattle.tables.specs.Compaction.{Compacted}
-use Rattle.tables.proofs.Compacts.{step, no_past}
+use Rattle.tables.proofs.Compacts.{step}
 use Rattle.tables.proofs.dropping.compact.Goals as goal
 
 pub loop-i-preserved : goal.loop-i-preserved

@@ -1,15 +1,12 @@
 -- Of the rows passed, those that stay are in front; the rows not passed yet are as they were.
 use Prim.Native.Nat.{ℕ, ◌≤◌, ◌-◌}
 use mathlib.Core.Bool.{Bool}
-use mathlib.Core.Path.{refl}
 use mathlib.Core.List.{List}
-use native.Mathlib.Omega.{arith}
 use lib.ListN.{take}
-use borrow.Author.Rules.{rules}
 use Rattle.model.specs.declared.Past.{Past}
 use Rattle.tables.specs.Rows.{pasts}
 use Rattle.tables.specs.Lookups.{stays_by}
-use Rattle.tables.proofs.Blocks.{Passed, turned, over}
+use Rattle.tables.proofs.Blocks.{Passed}
 use Rattle.tables.proofs.dropping.drop_dead.Given as goal
 
 abbrev pub test : ℕ → ℕ → ℕ → List ℕ → List ℕ → Past → Bool

@@ -1,16 +1,13 @@
 -- The rows judged so far are judged by the test, and the last search is kept with the end that it was made for.
-use Prim.Native.Nat.{ℕ, ◌≤◌, ◌-◌}
-use mathlib.Core.Bool.{Bool, true}
-use mathlib.Core.Path.{◌≡◌, refl, sym, ap, ◌∙◌, subst}
-use mathlib.Core.Logic.{⊎_elim}
-use mathlib.Core.List.{List, map}
+use Prim.Native.Nat.{ℕ}
+use mathlib.Core.Bool.{true}
+use mathlib.Core.Path.{◌≡◌, sym, ap, ◌∙◌}
+use mathlib.Core.List.{map}
 use native.Mathlib.Omega.{arith}
-use lib.ListN.{length, take, drop, length-set, length-map, length-drop, get_or-map}
+use lib.ListN.{take, drop, length-set, length-map, length-drop, get_or-map}
 use lib.Seq.{get_or-drop}
-use borrow.Author.Rules.{rules}
-use Rattle.model.specs.declared.Past.{Past}
 use Rattle.tables.specs.Rows.{pasts}
-use Rattle.tables.specs.Lookups.{last_before, stays_by}
+use Rattle.tables.specs.Lookups.{last_before}
 use Rattle.tables.proofs.Cases.{clash}
 use Rattle.tables.proofs.Compacts.{no_past, copied}
 use Rattle.tables.proofs.dropping.judged.Invariants.{test}
@@ -25,9 +22,9 @@ searched c =
     let v = c.loop-i in
     let last = λ (u : ℕ). last_before (take c.args.known c.args.snapshots.now) u in
     elim c.if-in_scope.branch [
-      then-in_scope+then-q-until w ↦ let e = w.s-is ∙ w.last_before-s.ensures in (e ∙ ap last (sym w.until-is), λ _. e)
-    | then-in_scope+else-q-until w ↦ let e = w.s-is ∙ v.invariant.3 in (e ∙ ap last (sym w.until-is), λ _. e ∙ ap last (sym w.if-q-until.false))
-    | else-in_scope w ↦ (w.s-is ∙ v.invariant.3 ∙ ap last (sym w.until-is), λ t. clash (sym t ∙ w.if-in_scope.false))
+      | then-in_scope+then-q-until w ↦ let e = w.s-is ∙ w.last_before-s.ensures in (e ∙ ap last (sym w.until-is), λ _. e)
+      | then-in_scope+else-q-until w ↦ let e = w.s-is ∙ v.invariant.3 in (e ∙ ap last (sym w.until-is), λ _. e ∙ ap last (sym w.if-q-until.false))
+      | else-in_scope w ↦ (w.s-is ∙ v.invariant.3 ∙ ap last (sym w.until-is), λ t. clash (sym t ∙ w.if-in_scope.false))
     ]
 
 pub loop-i-preserved : goal.loop-i-preserved

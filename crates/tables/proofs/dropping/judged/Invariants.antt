@@ -1,18 +1,12 @@
 -- The rows judged so far are judged by the test, and the last search is kept with the end that it was made for.
 use Prim.Native.Nat.{ℕ, ◌≤◌, ◌-◌}
-use mathlib.Core.Bool.{Bool, true}
-use mathlib.Core.Path.{◌≡◌, refl, sym, ap, ◌∙◌, subst}
-use mathlib.Core.Logic.{⊎_elim}
+use mathlib.Core.Bool.{Bool}
+use mathlib.Core.Path.{◌≡◌}
 use mathlib.Core.List.{List, map}
-use native.Mathlib.Omega.{arith}
-use lib.ListN.{length, take, drop, length-set, length-map, length-drop, get_or-map}
-use lib.Seq.{get_or-drop}
-use borrow.Author.Rules.{rules}
+use lib.ListN.{length, take, drop}
 use Rattle.model.specs.declared.Past.{Past}
 use Rattle.tables.specs.Rows.{pasts}
 use Rattle.tables.specs.Lookups.{last_before, stays_by}
-use Rattle.tables.proofs.Cases.{clash}
-use Rattle.tables.proofs.Compacts.{no_past, copied}
 use Rattle.tables.proofs.dropping.judged.Given as goal
 
 abbrev pub test : ℕ → ℕ → ℕ → List ℕ → List ℕ → Past → Bool

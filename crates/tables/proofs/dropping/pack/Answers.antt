@@ -1,12 +1,11 @@
 -- The table is as it was, with the rows written so far in it.
-use Prim.Native.Nat.{ℕ, ◌≤◌, ◌-◌, ◌+◌}
-use mathlib.Core.Path.{◌≡◌, sym, ap, ◌∙◌, subst}
+use Prim.Native.Nat.{◌+◌}
+use mathlib.Core.Path.{sym, ap, ◌∙◌}
 use mathlib.Core.List.{List}
 use native.Mathlib.Numerals.{add-one}
 use native.Mathlib.Omega.{arith}
-use lib.ListN.{length, get_or, set}
-use lib.Seq.{paste, paste-zero, paste-suc, length-paste, take-paste, drop-paste}
-use borrow.Author.Rules.{rules}
+use lib.ListN.{get_or, set}
+use lib.Seq.{paste, paste-suc}
 use Rattle.model.specs.declared.Past.{Past}
 use Rattle.tables.specs.Rows.{pasts}
 use Rattle.tables.proofs.Compacts.{no_past}

@@ -4,10 +4,8 @@ use mathlib.Core.Path.{◌≡◌, refl, ◌∙◌, sym}
 use mathlib.Core.Bool.{true}
 use native.Mathlib.Omega.{arith}
 use lib.ListN.{length, get_or-eq_default}
-use borrow.Author.Rules.{rules}
-use borrow.Author.Tests.{not-true, not-false}
 use Rattle.tables.specs.Lookups.{in_scope}
-use Rattle.tables.proofs.Living.{stays_out, stays_beyond, stays_last}
+use Rattle.tables.proofs.Living.{stays_last}
 use Rattle.tables.proofs.dropping.stays.Goals as goal
 use Rattle.tables.proofs.dropping.stays.Goals.{Else-not-in_scope}
 

@@ -1,12 +1,8 @@
 -- The rows copied so far are those of the table, from the first asked for on.
-use Prim.Native.Nat.{ℕ, ◌≤◌, ◌-◌}
-use mathlib.Core.Path.{◌≡◌, refl, subst, sym, ◌∙◌}
-use native.Mathlib.Omega.{arith}
-use lib.ListN.{length, take, drop, length-set, length-drop}
-use lib.Seq.{get_or-drop}
-use borrow.Author.Rules.{rules}
+use Prim.Native.Nat.{◌≤◌, ◌-◌}
+use mathlib.Core.Path.{◌≡◌}
+use lib.ListN.{length, take, drop}
 use Rattle.tables.specs.Rows.{pasts}
-use Rattle.tables.proofs.Compacts.{no_past, copied}
 use Rattle.tables.proofs.dropping.unpacked.Given as goal
 
 abbrev pub invariant-loop-i : goal.invariant-loop-i

@@ -1,13 +1,9 @@
 -- From the last row to the first, the page's mark by the copies passed is before the stamp.
-use Prim.Native.Nat.{ℕ, ◌≤◌, ◌<◌}
-use mathlib.Core.List.{List}
-use mathlib.Core.Path.{sym, subst}
 use native.Mathlib.Omega.{arith}
 use borrow.Author.Rules.{rules}
-use borrow.Author.Tests.{lt-leb}
 use Rattle.tables.specs.Rows.{copy_heads}
 use Rattle.tables.proofs.Backward.{Turn}
-use Rattle.tables.proofs.Marks.{mark_from, mark_start, mark_end, mark_reaches, short_early, short_other}
+use Rattle.tables.proofs.Marks.{mark_reaches, short_early, short_other}
 use Rattle.tables.proofs.lookups.archived.Goals as goal
 use Rattle.tables.proofs.lookups.archived.Goals.{In-loop-i}
 

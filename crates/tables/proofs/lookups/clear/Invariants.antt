@@ -1,10 +1,7 @@
 -- The marks passed are 0.
 use Prim.Native.Nat.{ℕ, ◌≤◌, ◌<◌, ◌-◌}
 use mathlib.Core.Path.{◌≡◌}
-use native.Mathlib.Omega.{arith}
-use lib.ListN.{length, get_or, length-set}
-use borrow.Author.Rules.{rules}
-use Rattle.tables.proofs.Marks.{clear_more, clear_all}
+use lib.ListN.{length, get_or}
 use Rattle.tables.proofs.lookups.clear.Given as goal
 
 abbrev pub invariant-loop-p : goal.invariant-loop-p

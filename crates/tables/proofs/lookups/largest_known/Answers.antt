@@ -1,5 +1,4 @@
 -- As many snapshots as the search says are at or before the time, and the last of them is the largest.
-use borrow.Author.Rules.{rules}
 use native.Mathlib.Omega.{arith}
 use Rattle.tables.proofs.Known.{none_known, last_known}
 use Rattle.tables.proofs.lookups.largest_known.Goals as goal

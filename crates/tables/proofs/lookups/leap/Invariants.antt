@@ -1,9 +1,6 @@
 -- The snapshots passed end with one at or before the time.
-use Prim.Native.Nat.{ℕ, ◌+◌, ◌-◌, ◌<◌, ◌≤◌}
-use mathlib.Core.Path.{◌≡◌, subst, sym}
-use native.Mathlib.Omega.{arith}
+use Prim.Native.Nat.{◌-◌, ◌<◌, ◌≤◌}
 use lib.ListN.{get_or}
-use borrow.Author.Rules.{rules}
 use Rattle.tables.proofs.lookups.leap.Given as goal
 
 abbrev pub invariant-loop-k : goal.invariant-loop-k

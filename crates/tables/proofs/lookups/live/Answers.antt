@@ -2,12 +2,9 @@
 use mathlib.Core.Path.{◌≡◌, ◌∙◌, sym}
 use mathlib.Core.Bool.{true}
 use lib.ListN.{take}
-use borrow.Author.Tests.{not-true, not-false}
-use borrow.Author.Rules.{rules}
 use Rattle.tables.specs.Rows.{copy_heads, copies_of}
 use Rattle.tables.specs.Lookups.{wants_b}
-use Rattle.tables.proofs.Known.{wants_some}
-use Rattle.tables.proofs.Living.{live_beyond, live_unwanted, live_archived}
+use Rattle.tables.proofs.Living.{live_unwanted, live_archived}
 use Rattle.tables.proofs.lookups.live.Goals as goal
 use Rattle.tables.proofs.lookups.live.Goals.{Else-not-wants}
 

@@ -1,13 +1,12 @@
 -- From the page's last row to its first, `best` is the page's mark by the copies passed.
-use Prim.Native.Nat.{ℕ, ◌≤◌, ◌<◌, ◌-◌}
+use Prim.Native.Nat.{ℕ, ◌-◌}
 use mathlib.Core.List.{List}
 use mathlib.Core.Path.{◌≡◌, ◌∙◌, ap}
-use mathlib.Core.Logic.{⊎_elim}
 use native.Mathlib.Omega.{arith}
 use borrow.Author.Rules.{rules}
-use Rattle.tables.specs.Rows.{copy_heads, copy_head_at}
+use Rattle.tables.specs.Rows.{copy_heads}
 use Rattle.tables.proofs.Backward.{Turn}
-use Rattle.tables.proofs.Marks.{mark_from, mark_start, mark_end, mark_new, mark_old, mark_trimmed, trimmed_page}
+use Rattle.tables.proofs.Marks.{mark_from, mark_start, mark_new, mark_old, mark_trimmed, trimmed_page}
 use Rattle.tables.proofs.lookups.mark_of.Goals as goal
 use Rattle.tables.proofs.lookups.mark_of.Goals.{In-loop-i, else-best-c, then-best-c}
 

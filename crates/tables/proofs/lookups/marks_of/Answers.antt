@@ -1,13 +1,12 @@
 -- From the last row to the first, `marks` holds each page's mark by the copies passed.
-use Prim.Native.Nat.{ℕ, ◌≤◌, ◌<◌}
-use mathlib.Core.List.{List}
-use mathlib.Core.Path.{◌≡◌, ◌∙◌}
+use Prim.Native.Nat.{◌<◌}
+use mathlib.Core.Path.{◌∙◌}
 use native.Mathlib.Omega.{arith}
-use lib.ListN.{length, get_or, length-set}
+use lib.ListN.{length-set}
 use borrow.Author.Rules.{rules}
 use Rattle.tables.specs.Rows.{copy_heads}
 use Rattle.tables.proofs.Backward.{Turn}
-use Rattle.tables.proofs.Marks.{mark_from, mark_start, mark_end, page_in, marks_new, marks_old}
+use Rattle.tables.proofs.Marks.{mark_end, page_in, marks_new, marks_old}
 use Rattle.tables.proofs.lookups.marks_of.Goals as goal
 use Rattle.tables.proofs.lookups.marks_of.Goals.{After-copy_at-c, In-loop-i}
 

@@ -1,13 +1,10 @@
 -- From the last row to the first, `marks` holds each page's mark by the copies passed.
-use Prim.Native.Nat.{ℕ, ◌≤◌, ◌<◌}
+use Prim.Native.Nat.{ℕ, ◌≤◌}
 use mathlib.Core.List.{List}
-use mathlib.Core.Path.{◌≡◌, ◌∙◌}
-use native.Mathlib.Omega.{arith}
-use lib.ListN.{length, get_or, length-set}
-use borrow.Author.Rules.{rules}
+use mathlib.Core.Path.{◌≡◌}
+use lib.ListN.{length, get_or}
 use Rattle.tables.specs.Rows.{copy_heads}
-use Rattle.tables.proofs.Backward.{Turn}
-use Rattle.tables.proofs.Marks.{mark_from, mark_start, mark_end, page_in, marks_new, marks_old}
+use Rattle.tables.proofs.Marks.{mark_from}
 use Rattle.tables.proofs.lookups.marks_of.Given as goal
 
 abbrev pub invariant-loop-i : goal.invariant-loop-i

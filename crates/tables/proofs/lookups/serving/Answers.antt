@@ -1,10 +1,9 @@
 -- From the last row to the first, the code holds the oldest serving copy of the rows passed, or that there is none.
-use Prim.Native.Nat.{◌≤◌}
 use native.Mathlib.Omega.{arith}
 use borrow.Author.Rules.{rules}
 use Rattle.tables.specs.Rows.{copy_heads}
 use Rattle.tables.proofs.Backward.{Turn}
-use Rattle.tables.proofs.Oldest.{Held, held_start, held_other, held_early, held_taken, held_kept, serving_found, serving_none}
+use Rattle.tables.proofs.Oldest.{held_other, held_early, held_taken, held_kept}
 use Rattle.tables.proofs.lookups.serving.Goals as goal
 use Rattle.tables.proofs.lookups.serving.Goals.{In-loop-i}
 

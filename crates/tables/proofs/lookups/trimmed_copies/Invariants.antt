@@ -1,16 +1,12 @@
 -- A search from the last row: the rows passed are of other pages.
 use Prim.Native.Nat.{ℕ, ◌≤◌}
 use mathlib.Core.Bool.{Bool}
-use mathlib.Core.Path.{◌≡◌, sym, ap, ◌∙◌}
+use mathlib.Core.Path.{◌≡◌}
 use mathlib.Core.List.{[]}
-use native.Mathlib.Omega.{arith}
 use lib.Dec.{eqb}
-use borrow.Author.Tests.{eq-eqb, ne_eqb}
-use borrow.Author.Rules.{rules}
 use Rattle.tables.specs.declared.CopyHead.{CopyHead}
 use Rattle.tables.specs.Rows.{copy_head_of, copy_heads}
 use Rattle.tables.specs.Lookups.{trimmed}
-use Rattle.tables.proofs.Trims.{trim_yes, trim_no, trim_end}
 use Rattle.tables.proofs.lookups.trimmed_copies.Given as goal
 
 abbrev pub is_of : ℕ → CopyHead → Bool

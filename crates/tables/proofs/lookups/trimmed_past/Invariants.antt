@@ -1,17 +1,13 @@
 -- A search from the last row: the rows passed are of other pages.
 use Prim.Native.Nat.{ℕ, ◌≤◌}
 use mathlib.Core.Bool.{Bool}
-use mathlib.Core.Path.{◌≡◌, sym, ap, ◌∙◌}
+use mathlib.Core.Path.{◌≡◌}
 use mathlib.Core.List.{[]}
-use native.Mathlib.Omega.{arith}
 use lib.Dec.{eqb}
-use borrow.Author.Tests.{eq-eqb, ne_eqb}
-use borrow.Author.Rules.{rules}
 use Rattle.model.specs.declared.Past.{Past}
 use Rattle.model.specs.Store.{page_of}
 use Rattle.tables.specs.Rows.{past_of, pasts}
 use Rattle.tables.specs.Lookups.{trimmed}
-use Rattle.tables.proofs.Trims.{trim_yes, trim_no, trim_end}
 use Rattle.tables.proofs.lookups.trimmed_past.Given as goal
 
 abbrev pub is_of : ℕ → Past → Bool

@@ -1,7 +1,6 @@
 -- The last snapshot before the row's end decides.
 use mathlib.Core.Path.{◌∙◌, sym, ap}
 use lib.ListN.{take}
-use borrow.Author.Rules.{rules}
 use Rattle.tables.specs.Lookups.{wants_b}
 use Rattle.tables.proofs.Known.{wanted_last}
 use Rattle.tables.proofs.lookups.wanted.Goals as goal
