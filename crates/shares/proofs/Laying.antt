@@ -4,13 +4,13 @@ use mathlib.Core.Path.{◌≡◌, refl, ap, sym, ◌∙◌}
 use mathlib.Core.Bool.{Bool, true, false}
 use mathlib.Core.List.{List, [], ◌∷◌}
 use native.Mathlib.Omega.{arith}
-use lib.ListN.{length, take}
+use lib.ListN.{take}
 use lib.Seq.{take_all}
-use lib.Dec.{eqb, ltb, leb}
+use lib.Dec.{eqb}
 use borrow.Author.Tests.{lt-leb, le-ltb, lt-ltb, le-leb}
 use Rattle.model.specs.declared.Past.{Past}
 use Rattle.model.specs.declared.Pending.{Pending}
-use Rattle.model.specs.Lists.{both, either, pick, kept}
+use Rattle.model.specs.Lists.{both, kept}
 use Rattle.model.specs.Store.{page_of}
 use Rattle.model.specs.Changes.{of_page}
 use Rattle.tables.proofs.Cases.{by_test, clash}

@@ -1,6 +1,5 @@
 -- There is room for the copies and the buried rows, and what the four steps leave is the model's store.
 use Prim.Native.Nat.{◌+◌, ◌≤◌}
-use native.Mathlib.Omega.{arith}
 use lib.ListN.{take}
 use Rattle.shares.specs.Many.{Ordered}
 use Rattle.flushes.specs.Parts.{Ruled, rule_of}

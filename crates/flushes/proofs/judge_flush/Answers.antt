@@ -1,11 +1,8 @@
 -- The list and the mark are the model's, and so the verdict by counts is.
 use Prim.Native.Nat.{ℕ}
 use mathlib.Core.List.{List}
-use native.Mathlib.Omega.{arith}
-use borrow.Author.Rules.{rules}
 use Rattle.tables.specs.Contents.{contents}
 use Rattle.flushes.specs.Promises.{Listed}
-use Rattle.flushes.specs.Parts.{Ruled, rule_of}
 use Rattle.flushes.proofs.Judging.{listing, judging}
 use Rattle.flushes.proofs.judge_flush.Goals as goal
 use Rattle.flushes.proofs.judge_flush.Goals.{After-highest-mark}

@@ -1,13 +1,10 @@
 -- The snapshots known so far, with the stamps ahead, are all that become known.
 use Prim.Native.Nat.{◌+◌, ◌≤◌, ◌-◌}
-use mathlib.Core.Path.{◌≡◌, ◌∙◌, sym, ap}
-use mathlib.Core.List.{◌++◌, append-nil}
-use native.Mathlib.Omega.{arith}
+use mathlib.Core.Path.{◌≡◌}
+use mathlib.Core.List.{◌++◌}
 use lib.Dec.{ltb}
-use lib.ListN.{length, take, drop, length-set, length-drop, drop_of_length-le}
-use borrow.Author.Rules.{rules}
+use lib.ListN.{length, take, drop}
 use Rattle.model.specs.Lists.{kept}
-use Rattle.gossips.proofs.Ahead.{written}
 use Rattle.gossips.proofs.add_known.Given as goal
 
 abbrev pub invariant-loop-i : goal.invariant-loop-i

@@ -1,6 +1,5 @@
 -- The snapshots added, which ascend, and the past values that live by them make the store after the message.
-use borrow.Author.Rules.{rules}
-use Rattle.gossips.proofs.Applying.{added_rises, applied}
+use Rattle.gossips.proofs.Applying.{applied}
 use Rattle.gossips.proofs.apply_gossip.Goals as goal
 
 pub returns : goal.returns

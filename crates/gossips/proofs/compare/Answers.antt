@@ -1,19 +1,10 @@
 -- The stamps ahead against the known snapshots ahead say what the whole lists say.
-use Prim.Native.Nat.{ℕ, ◌+◌, ◌<◌, ◌≤◌, ◌-◌}
-use mathlib.Core.Path.{◌≡◌, ◌∙◌, sym, ap}
-use mathlib.Core.List.{List, ◌∷◌}
+use mathlib.Core.Path.{◌∙◌, ap}
 use native.Mathlib.Omega.{arith}
-use lib.ListN.{length, take, get_or}
-use lib.Seq.{length-take-le}
-use lib.Dec.{leb}
-use borrow.Author.Tests.{le-leb}
-use borrow.Author.Rules.{rules}
-use Rattle.model.specs.Lists.{kept}
+use lib.ListN.{take}
 use Rattle.model.specs.Judgement.{compared}
-use Rattle.gossips.specs.declared.Compared.TheVariants.{Differ}
 use Rattle.gossips.proofs.Rising.{rest_none}
-use Rattle.gossips.proofs.Ahead.{ahead_yes, ahead_end}
-use Rattle.gossips.proofs.Comparing.{told, in_bounds, heard_starts, told_next, told_end, told_ends, heard_ends, heads_differ, heads_agree}
+use Rattle.gossips.proofs.Comparing.{told, heard_starts, heard_ends}
 use Rattle.gossips.proofs.compare.Goals as goal
 
 pub loop-j-init : goal.loop-j-init

@@ -1,14 +1,6 @@
 -- No stamp passed is beyond the horizon; from the first that is, all are.
-use Prim.Native.Nat.{◌≤◌, ◌-◌}
-use mathlib.Core.Path.{◌≡◌, sym, ◌∙◌}
-use native.Mathlib.Omega.{arith}
-use lib.Dec.{ltb}
-use lib.ListN.{length, drop, get_or, drop_of_length-le}
-use borrow.Author.Tests.{le-ltb}
-use borrow.Author.Rules.{rules}
-use Rattle.model.specs.Lists.{kept}
+use mathlib.Core.Path.{◌∙◌}
 use Rattle.gossips.proofs.Rising.{rest_all}
-use Rattle.gossips.proofs.Ahead.{ahead_no, ahead_end}
 use Rattle.gossips.proofs.count_known.Goals as goal
 
 pub returns-then-horizon-stamps : goal.returns-then-horizon-stamps

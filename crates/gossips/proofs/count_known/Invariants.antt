@@ -1,14 +1,9 @@
 -- No stamp passed is beyond the horizon; from the first that is, all are.
 use Prim.Native.Nat.{◌≤◌, ◌-◌}
-use mathlib.Core.Path.{◌≡◌, sym, ◌∙◌}
-use native.Mathlib.Omega.{arith}
+use mathlib.Core.Path.{◌≡◌}
 use lib.Dec.{ltb}
-use lib.ListN.{length, drop, get_or, drop_of_length-le}
-use borrow.Author.Tests.{le-ltb}
-use borrow.Author.Rules.{rules}
+use lib.ListN.{length, drop}
 use Rattle.model.specs.Lists.{kept}
-use Rattle.gossips.proofs.Rising.{rest_all}
-use Rattle.gossips.proofs.Ahead.{ahead_no, ahead_end}
 use Rattle.gossips.proofs.count_known.Given as goal
 
 abbrev pub invariant-loop-i : goal.invariant-loop-i

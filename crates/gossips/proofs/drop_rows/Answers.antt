@@ -1,6 +1,5 @@
 -- With no rows none is dropped; else the compaction by the marks of the copies drops what is dead by the copies.
-use borrow.Author.Rules.{rules}
-use Rattle.gossips.proofs.Applying.{none_dropped, dropped}
+use Rattle.gossips.proofs.Applying.{dropped}
 use Rattle.gossips.proofs.drop_rows.Goals as goal
 
 pub returns : goal.returns

@@ -6,7 +6,6 @@ use mathlib.Core.List.{List}
 use native.Mathlib.Omega.{arith}
 use lib.ListN.{length, length-drop}
 use lib.Dec.{ltb}
-use borrow.Author.Rules.{rules}
 use Rattle.model.specs.Lists.{kept, rising_from}
 use Rattle.model.specs.Store.{Store}
 use Rattle.model.specs.Judgement.{against}

@@ -1,12 +1,9 @@
 -- The last of a step is up to the horizon, and so are all before it.
-use Prim.Native.Nat.{ℕ, suc, ◌+◌, ◌≤◌, ◌-◌}
-use mathlib.Core.Path.{◌≡◌, subst}
-use native.Mathlib.Omega.{arith}
+use Prim.Native.Nat.{◌≤◌, ◌-◌}
+use mathlib.Core.Path.{◌≡◌}
 use lib.Dec.{ltb}
 use lib.ListN.{length, drop}
-use borrow.Author.Rules.{rules}
 use Rattle.model.specs.Lists.{kept}
-use Rattle.gossips.proofs.Rising.{none_beyond}
 use Rattle.gossips.proofs.leap.Given as goal
 
 abbrev pub invariant-loop-k : goal.invariant-loop-k

@@ -1,11 +1,9 @@
 -- The first stamp tells of all: up to the bound it is found, beyond it none behind it is up to the bound.
-use mathlib.Core.Path.{◌≡◌, refl, sym, ◌∙◌}
+use mathlib.Core.Path.{◌≡◌, sym, ◌∙◌}
 use mathlib.Core.List.{[]}
 use native.Mathlib.Omega.{arith}
 use lib.Dec.{leb}
-use lib.ListN.{length, drop, get_or}
-use borrow.Author.Tests.{le-leb}
-use borrow.Author.Rules.{rules}
+use lib.ListN.{length, drop}
 use Rattle.model.specs.Lists.{kept}
 use Rattle.gossips.specs.Promises.{Skipped}
 use Rattle.gossips.proofs.Rising.{rest_none}

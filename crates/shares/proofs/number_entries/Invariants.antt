@@ -1,15 +1,12 @@
 -- The numbers listed so far name the rows that pass; with those ahead they are all of them.
 use Prim.Native.Nat.{ℕ, ◌≤◌, ◌<◌, ◌-◌}
 use mathlib.Core.List.{[], ◌++◌}
-use mathlib.Core.Path.{◌≡◌, sym, ◌∙◌}
-use native.Mathlib.Omega.{arith}
-use lib.ListN.{length, take, drop, get_or, length-set}
-use borrow.Author.Rules.{rules}
+use mathlib.Core.Path.{◌≡◌}
+use lib.ListN.{length, take, drop, get_or}
 use Rattle.model.specs.Changes.{of_page}
 use Rattle.model.specs.Lists.{kept}
 use Rattle.tables.specs.Rows.{pending_of, pendings}
 use Rattle.shares.specs.Shares.{rows_at}
-use Rattle.shares.proofs.Numbers.{inside_more, number_yes, number_no, number_end}
 use Rattle.shares.proofs.number_entries.Given as goal
 
 abbrev pub invariant-loop-i : goal.invariant-loop-i

@@ -1,14 +1,11 @@
 -- The numbers listed so far name the rows that pass; with those ahead they are all of them.
 use Prim.Native.Nat.{ℕ, ◌≤◌, ◌<◌, ◌-◌}
 use mathlib.Core.List.{[], ◌++◌}
-use mathlib.Core.Path.{◌≡◌, sym, ◌∙◌}
-use native.Mathlib.Omega.{arith}
-use lib.ListN.{length, take, drop, get_or, length-set}
-use borrow.Author.Rules.{rules}
+use mathlib.Core.Path.{◌≡◌}
+use lib.ListN.{length, take, drop, get_or}
 use Rattle.model.specs.Lists.{kept}
 use Rattle.tables.specs.Rows.{past_of, pasts}
 use Rattle.shares.specs.Shares.{row_of_page, rows_at}
-use Rattle.shares.proofs.Numbers.{inside_more, number_yes, number_no, number_end}
 use Rattle.shares.proofs.number_rows.Given as goal
 
 abbrev pub invariant-loop-i : goal.invariant-loop-i

@@ -1,16 +1,11 @@
 -- Behind the copies that there are stands for each listed snapshot its head, with the page as of it.
-use Prim.Native.Nat.{◌+◌, ◌≤◌}
 use mathlib.Core.Bool.{false}
-use mathlib.Core.Path.{sym, ◌∙◌}
+use mathlib.Core.Path.{◌∙◌}
 use native.Mathlib.Omega.{arith}
-use lib.ListN.{length, take}
-use lib.Seq.{length-take-le}
-use borrow.Author.Rules.{rules}
-use Rattle.tables.specs.Rows.{copy_heads, copies_of}
-use Rattle.tables.proofs.Copies.{copies_of_length}
+use lib.ListN.{take}
+use Rattle.tables.specs.Rows.{copy_heads}
 use Rattle.shares.specs.Many.{page_at}
-use Rattle.flushes.specs.Parts.{copy_in}
-use Rattle.flushes.proofs.Copying.{put_start, put_end, copies_behind}
+use Rattle.flushes.proofs.Copying.{copies_behind}
 use Rattle.flushes.proofs.archive.archive.Goals as goal
 
 pub returns : goal.returns

@@ -1,13 +1,10 @@
 -- The heads so far, with those of the snapshots ahead, are all of them.
 use Prim.Native.Nat.{◌≤◌, ◌+◌, ◌-◌}
 use mathlib.Core.List.{◌++◌, map}
-use mathlib.Core.Path.{◌≡◌, ap, ◌∙◌}
-use native.Mathlib.Omega.{arith}
-use lib.ListN.{length, take, drop, length-set}
-use borrow.Author.Rules.{rules}
+use mathlib.Core.Path.{◌≡◌}
+use lib.ListN.{length, take, drop}
 use Rattle.tables.specs.Rows.{copy_heads}
 use Rattle.flushes.specs.Parts.{head_of}
-use Rattle.flushes.proofs.Copying.{put_start, put_more, put_end}
 use Rattle.flushes.proofs.archive.put_heads.Given as goal
 
 abbrev pub invariant-loop-i : goal.invariant-loop-i

@@ -1,12 +1,9 @@
 -- The snapshots found so far are the due ones up to the one at j, whatever the store whose dues the ages tell.
 use Prim.Native.Nat.{ℕ, ◌≤◌, ◌-◌}
-use mathlib.Core.Path.{◌≡◌, refl, sym, ◌∙◌, subst}
-use native.Mathlib.Omega.{arith}
-use lib.ListN.{length, take, length-set}
-use borrow.Author.Rules.{rules}
+use mathlib.Core.Path.{◌≡◌}
+use lib.ListN.{length, take}
 use Rattle.model.specs.Store.{Store}
 use Rattle.flushes.specs.Parts.{Telling, ListedTo}
-use Rattle.flushes.proofs.Listing.{told_due, list_yes, list_no}
 use Rattle.flushes.proofs.dues.find_dues.Given as goal
 
 abbrev pub invariant-loop-j : goal.invariant-loop-j

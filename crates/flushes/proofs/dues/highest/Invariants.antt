@@ -1,11 +1,8 @@
 -- The largest so far, with the stamps ahead, is the largest of all.
 use Prim.Native.Nat.{◌≤◌, ◌-◌, max}
 use mathlib.Core.Path.{◌≡◌}
-use native.Mathlib.Omega.{arith}
 use lib.ListN.{take, drop}
-use borrow.Author.Rules.{rules}
 use Rattle.flushes.specs.Parts.{top}
-use Rattle.flushes.proofs.Listing.{top_new, top_old, top_end}
 use Rattle.flushes.proofs.dues.highest.Given as goal
 
 abbrev pub invariant-loop-i : goal.invariant-loop-i

@@ -4,8 +4,6 @@ use mathlib.Core.List.{List, [], ◌++◌}
 use mathlib.Core.Path.{◌≡◌, sym, ◌∙◌}
 use native.Mathlib.Omega.{arith}
 use lib.ListN.{length, take, drop, get_or, set, length-set}
-use lib.Seq.{length-take-le}
-use borrow.Author.Rules.{rules}
 use Rattle.model.specs.Store.{Store}
 use Rattle.shares.proofs.Orders.{rising_at, part_ordered, first_inside, first_behind}
 use Rattle.flushes.specs.Parts.{seen_in, due_seen, dues_seen}

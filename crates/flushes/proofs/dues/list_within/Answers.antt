@@ -2,7 +2,6 @@
 use Prim.Native.Nat.{◌+◌, ◌-◌}
 use native.Mathlib.Omega.{arith}
 use lib.ListN.{take, drop, length-take}
-use borrow.Author.Rules.{rules}
 use Rattle.shares.proofs.Orders.{part_ordered}
 use Rattle.flushes.specs.Parts.{seen_in}
 use Rattle.flushes.proofs.Listing.{pages_tell, listed_high}

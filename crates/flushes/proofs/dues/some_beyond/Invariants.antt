@@ -1,14 +1,9 @@
 -- A search from the first word: no word passed is beyond the stamp.
 use Prim.Native.Nat.{◌≤◌, ◌-◌}
-use mathlib.Core.Path.{◌≡◌, ap, sym, ◌∙◌}
-use native.Mathlib.Omega.{arith}
+use mathlib.Core.Path.{◌≡◌}
 use lib.Dec.{ltb}
 use lib.ListN.{length, take, drop}
-use lib.Seq.{take-length}
-use borrow.Author.Rules.{rules}
-use borrow.Author.Tests.{lt-ltb, le-ltb}
 use Rattle.model.specs.Lists.{any_b}
-use Rattle.tables.proofs.Searches.{any_no, any_yes, any_end}
 use Rattle.flushes.proofs.dues.some_beyond.Given as goal
 
 abbrev pub invariant-loop-i : goal.invariant-loop-i

@@ -3,14 +3,13 @@ use Prim.Native.Nat.{ℕ, ◌+◌}
 use mathlib.Core.Path.{◌≡◌}
 use native.Mathlib.Omega.{arith}
 use lib.ListN.{length, take}
-use borrow.Author.Rules.{rules}
 use Rattle.model.specs.Changes.{of_page}
 use Rattle.model.specs.Lists.{kept}
 use Rattle.tables.specs.Rows.{pendings}
 use Rattle.shares.proofs.Numbers.{numbered_count}
 use Rattle.flushes.specs.Parts.{leaves_under}
 use Rattle.flushes.proofs.Sharing.{leaving_few}
-use Rattle.flushes.proofs.Verdicts.{say_idle, say_archive, say_past, say_accepted}
+use Rattle.flushes.proofs.Verdicts.{say_accepted}
 use Rattle.flushes.proofs.judge.verdict.Goals as goal
 use Rattle.flushes.proofs.judge.verdict.Goals.{Else-share-dues-eq0, Start}
 

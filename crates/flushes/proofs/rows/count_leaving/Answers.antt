@@ -1,15 +1,13 @@
 -- The entries counted so far, with those that leave a row ahead, are those of all.
-use Prim.Native.Nat.{◌≤◌, ◌+◌, ◌-◌}
-use mathlib.Core.Path.{◌≡◌, ap, sym, ◌∙◌}
+use mathlib.Core.Path.{ap, sym, ◌∙◌}
 use native.Mathlib.Omega.{arith}
-use lib.ListN.{length, take, drop}
-use borrow.Author.Rules.{rules}
+use lib.ListN.{length, take}
 use Rattle.model.specs.Changes.{of_page}
 use Rattle.model.specs.Lists.{kept}
 use Rattle.tables.specs.Rows.{pendings}
 use Rattle.shares.proofs.Numbers.{numbered_count, numbered_row}
 use Rattle.flushes.specs.Parts.{leaves_under}
-use Rattle.flushes.proofs.Turns.{count_yes, count_no, count_end}
+use Rattle.flushes.proofs.Turns.{count_yes, count_no}
 use Rattle.flushes.proofs.Sharing.{leaving_start}
 use Rattle.flushes.proofs.rows.count_leaving.Goals as goal
 

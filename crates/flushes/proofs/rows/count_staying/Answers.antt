@@ -1,15 +1,13 @@
 -- The rows counted so far, with those that stay ahead, are those of all.
-use Prim.Native.Nat.{◌≤◌, ◌+◌, ◌-◌}
-use mathlib.Core.Path.{◌≡◌, sym, ◌∙◌}
+use mathlib.Core.Path.{sym, ◌∙◌}
 use native.Mathlib.Omega.{arith}
-use lib.ListN.{length, take, drop}
-use borrow.Author.Rules.{rules}
+use lib.ListN.{take}
 use Rattle.model.specs.Lists.{kept}
 use Rattle.tables.specs.Rows.{pasts}
 use Rattle.shares.specs.Shares.{row_of_page}
 use Rattle.shares.proofs.Numbers.{numbered_count, numbered_row}
 use Rattle.flushes.specs.Parts.{stays_under}
-use Rattle.flushes.proofs.Turns.{count_yes, count_no, count_end}
+use Rattle.flushes.proofs.Turns.{count_yes, count_no}
 use Rattle.flushes.proofs.Sharing.{staying_start}
 use Rattle.flushes.proofs.rows.count_staying.Goals as goal
 

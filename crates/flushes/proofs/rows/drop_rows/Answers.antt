@@ -1,6 +1,5 @@
 -- Where all rows stay they are as they were; else only the page's mark is looked at, since rows of other pages stay.
 use lib.ListN.{take, replicate}
-use borrow.Author.Rules.{rules}
 use Rattle.tables.specs.Rows.{pasts}
 use Rattle.flushes.proofs.Sharing.{all_stay}
 use Rattle.flushes.proofs.Staying.{drop_held}

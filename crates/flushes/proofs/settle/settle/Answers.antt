@@ -1,19 +1,12 @@
 -- The entries kept so far, with the others ahead, are the others; the disk, with the page's entries ahead, is the disk after.
-use Prim.Native.Nat.{ℕ, ◌≤◌, ◌<◌, ◌-◌}
-use mathlib.Core.Bool.{Bool, true, not}
-use mathlib.Core.List.{◌++◌}
-use mathlib.Core.Path.{◌≡◌, ap, sym, ◌∙◌}
+use mathlib.Core.Bool.{not}
+use mathlib.Core.Path.{ap, sym, ◌∙◌}
 use native.Mathlib.Omega.{arith}
-use lib.ListN.{length, take, drop, length-set}
-use lib.Seq.{length-take-le}
-use borrow.Author.Rules.{rules}
-use Rattle.model.specs.Changes.{of_page, stored}
-use Rattle.model.specs.Lists.{kept}
-use Rattle.model.specs.declared.Pending.{Pending}
-use Rattle.tables.proofs.Keeping.{keep_yes, keep_no, keep_end}
+use lib.ListN.{length, length-set}
+use Rattle.model.specs.Changes.{of_page}
+use Rattle.tables.proofs.Keeping.{keep_yes}
 use Rattle.tables.specs.Rows.{pendings}
-use Rattle.flushes.proofs.Settling.{store_yes, store_no, store_end}
-use Rattle.flushes.proofs.Staying.{on_disk}
+use Rattle.flushes.proofs.Settling.{store_no}
 use Rattle.flushes.proofs.settle.settle.Invariants.{off}
 use Rattle.flushes.proofs.settle.settle.Goals as goal
 

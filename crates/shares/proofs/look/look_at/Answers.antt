@@ -1,12 +1,8 @@
 -- The page's words on disk, below its past rows unless the view is current, below its pending entries.
-use mathlib.Core.Path.{◌≡◌, ◌∙◌, ap}
-use mathlib.Core.Logic.{⊎_elim}
-use native.Mathlib.Omega.{arith}
-use lib.ListN.{length, take}
-use borrow.Author.Rules.{rules}
+use mathlib.Core.Path.{◌≡◌, ◌∙◌}
+use lib.ListN.{take}
 use borrow.Author.Tests.{not-true, not-false}
 use Rattle.tables.specs.Rows.{pasts}
-use Rattle.views.proofs.Pages.{page_length}
 use Rattle.views.proofs.Looks.{beneath, beneath_now, beneath_past, look_page}
 use Rattle.shares.proofs.look.look_at.Goals as goal
 use Rattle.shares.proofs.look.look_at.Goals.{Joined-not-v, else-not-v, then-not-v}

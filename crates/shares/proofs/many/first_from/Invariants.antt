@@ -1,9 +1,6 @@
 -- All stamps passed are before the stamp; those behind the first that is not are at or behind it.
 use Prim.Native.Nat.{ℕ, ◌≤◌, ◌<◌, ◌-◌}
-use native.Mathlib.Omega.{arith}
 use lib.ListN.{length, get_or}
-use borrow.Author.Rules.{rules}
-use Rattle.shares.proofs.Stamps.{all_before}
 use Rattle.shares.proofs.many.first_from.Given as goal
 
 abbrev pub invariant-loop-k : goal.invariant-loop-k

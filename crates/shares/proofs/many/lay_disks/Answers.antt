@@ -1,11 +1,8 @@
 -- Each turn writes one page more.
-use Prim.Native.Nat.{ℕ, ◌+◌, ◌*◌, ◌≤◌, ◌<◌, ◌-◌}
-use mathlib.Core.Path.{◌≡◌, refl, ◌∙◌}
+use Prim.Native.Nat.{◌+◌, ◌*◌, ◌≤◌, ◌-◌}
+use mathlib.Core.Path.{◌≡◌, ◌∙◌}
 use native.Mathlib.Omega.{arith}
-use lib.ListN.{length, take, drop, get_or}
-use borrow.Author.Rules.{rules}
-use Rattle.model.specs.Store.{page16, object_at}
-use Rattle.views.specs.Views.{part_of}
+use lib.ListN.{length}
 use Rattle.views.proofs.Pages.{page_length}
 use Rattle.shares.proofs.Stamps.{page_size, page_under, page_more}
 use Rattle.shares.proofs.many.lay_disks.Goals as goal

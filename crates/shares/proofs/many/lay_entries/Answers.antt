@@ -1,17 +1,12 @@
 -- From the last of the numbered rows to the first, each page is those passed laid over what it was.
-use Prim.Native.Nat.{ℕ, ◌≤◌, ◌-◌}
-use mathlib.Core.Path.{◌≡◌, refl}
-use mathlib.Core.List.{List, []}
+use mathlib.Core.List.{[]}
 use native.Mathlib.Omega.{arith}
-use lib.ListN.{length}
-use borrow.Author.Rules.{rules}
 use lib.Dec.{leb}
 use Rattle.model.specs.Store.{slot_of, pending_seen}
 use Rattle.tables.specs.Rows.{pending_of, pendings}
 use Rattle.tables.proofs.Backward.{Turn}
 use Rattle.views.specs.Views.{part_of}
-use Rattle.shares.specs.Many.{Pages}
-use Rattle.shares.proofs.Stamps.{laid_from, numbers_start, numbers_more, numbers_end, pages_same}
+use Rattle.shares.proofs.Stamps.{laid_from, numbers_more, numbers_end, pages_same}
 use Rattle.shares.proofs.many.lay_entries.Goals as goal
 
 pub loop-j-preserved : goal.loop-j-preserved

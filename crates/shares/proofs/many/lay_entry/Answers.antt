@@ -1,16 +1,8 @@
 -- The word is put for the stamps from the first at or behind the latest write on.
-use Prim.Native.Nat.{◌+◌, ◌≤◌, ◌<◌, ◌-◌}
-use mathlib.Core.Path.{◌≡◌, refl}
 use native.Mathlib.Omega.{arith}
-use lib.ListN.{length, get_or, length-set}
-use borrow.Author.Rules.{rules}
-use lib.Dec.{leb}
-use borrow.Author.Tests.{le-leb, lt-leb}
-use Rattle.model.specs.declared.Pending.{Pending}
-use Rattle.model.specs.Store.{slot_of, pending_seen}
-use Rattle.views.specs.Views.{part_of}
-use Rattle.shares.specs.Many.{FirstFrom}
-use Rattle.shares.proofs.Stamps.{Laid, laid_start, laid_more, laid_end}
+use lib.ListN.{get_or, length-set}
+use borrow.Author.Tests.{le-leb}
+use Rattle.shares.proofs.Stamps.{laid_more}
 use Rattle.shares.proofs.many.lay_entry.Goals as goal
 
 pub loop-j-preserved : goal.loop-j-preserved

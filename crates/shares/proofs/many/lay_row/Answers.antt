@@ -1,12 +1,7 @@
 -- The word is put for the stamps from the first at or behind `from` to the first at or behind `until`.
-use Prim.Native.Nat.{◌+◌, ◌≤◌, ◌-◌}
-use mathlib.Core.Path.{◌≡◌, refl}
 use native.Mathlib.Omega.{arith}
-use lib.ListN.{length, get_or}
-use borrow.Author.Rules.{rules}
-use Rattle.model.specs.Store.{slot_of, in_span, past_seen}
-use Rattle.views.specs.Views.{part_of}
-use Rattle.shares.proofs.Stamps.{Laid, laid_start, laid_more, laid_end, span_early, span_late, span_in}
+use lib.ListN.{get_or}
+use Rattle.shares.proofs.Stamps.{laid_more, span_in}
 use Rattle.shares.proofs.many.lay_row.Goals as goal
 
 pub loop-j-preserved : goal.loop-j-preserved

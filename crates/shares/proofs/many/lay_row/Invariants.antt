@@ -1,12 +1,10 @@
 -- The word is put for the stamps from the first at or behind `from` to the first at or behind `until`.
 use Prim.Native.Nat.{◌+◌, ◌≤◌, ◌-◌}
-use mathlib.Core.Path.{◌≡◌, refl}
-use native.Mathlib.Omega.{arith}
-use lib.ListN.{length, get_or}
-use borrow.Author.Rules.{rules}
+use mathlib.Core.Path.{◌≡◌}
+use lib.ListN.{length}
 use Rattle.model.specs.Store.{slot_of, in_span, past_seen}
 use Rattle.views.specs.Views.{part_of}
-use Rattle.shares.proofs.Stamps.{Laid, laid_start, laid_more, laid_end, span_early, span_late, span_in}
+use Rattle.shares.proofs.Stamps.{Laid}
 use Rattle.shares.proofs.many.lay_row.Given as goal
 
 abbrev pub invariant-loop-j : goal.invariant-loop-j

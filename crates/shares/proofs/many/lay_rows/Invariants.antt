@@ -1,16 +1,13 @@
 -- From the last of the numbered rows to the first, each page is those passed laid over what it was.
-use Prim.Native.Nat.{ℕ, ◌≤◌, ◌-◌}
-use mathlib.Core.Path.{◌≡◌, refl}
+use Prim.Native.Nat.{ℕ, ◌≤◌}
+use mathlib.Core.Path.{◌≡◌}
 use mathlib.Core.List.{List, []}
-use native.Mathlib.Omega.{arith}
 use lib.ListN.{length}
-use borrow.Author.Rules.{rules}
 use Rattle.model.specs.Store.{slot_of, in_span, past_seen}
 use Rattle.tables.specs.Rows.{past_of, pasts}
-use Rattle.tables.proofs.Backward.{Turn}
 use Rattle.views.specs.Views.{part_of}
 use Rattle.shares.specs.Many.{Pages}
-use Rattle.shares.proofs.Stamps.{laid_from, numbers_start, numbers_more, numbers_end, pages_same}
+use Rattle.shares.proofs.Stamps.{laid_from}
 use Rattle.shares.proofs.many.lay_rows.Given as goal
 
 abbrev pub invariant-loop-j : goal.invariant-loop-j

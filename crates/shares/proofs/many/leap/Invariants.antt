@@ -1,9 +1,6 @@
 -- All stamps before the last that was looked at are before it.
-use Prim.Native.Nat.{ℕ, ◌+◌, ◌≤◌, ◌<◌, ◌-◌}
-use native.Mathlib.Omega.{arith}
+use Prim.Native.Nat.{ℕ, ◌≤◌, ◌<◌, ◌-◌}
 use lib.ListN.{length, get_or}
-use borrow.Author.Rules.{rules}
-use Rattle.shares.proofs.Stamps.{all_before}
 use Rattle.shares.proofs.many.leap.Given as goal
 
 abbrev pub invariant-loop-k : goal.invariant-loop-k

@@ -1,7 +1,5 @@
 -- The words on disk, below the past rows, below the entries.
 use mathlib.Core.Path.{refl}
-use native.Mathlib.Omega.{arith}
-use borrow.Author.Rules.{rules}
 use Rattle.shares.proofs.Stamps.{pages_same, page_laid}
 use Rattle.shares.proofs.many.look_at_all.Goals as goal
 

@@ -1,10 +1,7 @@
 -- Each stamp passed is at most the newest so far.
 use Prim.Native.Nat.{ℕ, ◌≤◌, ◌<◌, ◌+◌, ◌*◌, ◌-◌}
-use mathlib.Core.Path.{◌≡◌, refl, subst}
-use native.Mathlib.Omega.{arith}
+use mathlib.Core.Path.{◌≡◌}
 use lib.ListN.{get_or}
-use borrow.Author.Rules.{rules}
-use Rattle.shares.proofs.Lulls.{newest_more}
 use Rattle.shares.proofs.quiet.newest_on_disk.Given as goal
 
 abbrev pub invariant-loop-k : goal.invariant-loop-k

@@ -1,17 +1,11 @@
 -- The newest so far, with the rows ahead, is the newest of all.
 use Prim.Native.Nat.{◌≤◌, ◌-◌}
-use mathlib.Core.List.{[]}
-use mathlib.Core.Path.{◌≡◌, ap}
-use native.Mathlib.Omega.{arith}
+use mathlib.Core.Path.{◌≡◌}
 use lib.ListN.{take, drop}
-use lib.Seq.{take_all}
-use borrow.Author.Rules.{rules}
 use Rattle.model.specs.Lists.{kept}
-use Rattle.tables.specs.Rows.{past_of, pasts}
+use Rattle.tables.specs.Rows.{pasts}
 use Rattle.shares.specs.Shares.{row_of_page}
 use Rattle.shares.specs.Lulls.{newest_of}
-use Rattle.shares.proofs.Numbers.{numbered_count, numbered_row}
-use Rattle.shares.proofs.Lulls.{newest_next, newest_end}
 use Rattle.shares.proofs.quiet.newest_row.Given as goal
 
 abbrev pub invariant-loop-j : goal.invariant-loop-j

@@ -2,7 +2,6 @@
 use Prim.Native.Nat.{◌≤◌}
 use native.Mathlib.Omega.{arith}
 use lib.ListN.{take}
-use borrow.Author.Rules.{rules}
 use Rattle.model.specs.Changes.{of_page}
 use Rattle.model.specs.Lists.{kept}
 use Rattle.tables.specs.Rows.{pendings, pasts}
