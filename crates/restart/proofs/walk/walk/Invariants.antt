@@ -20,7 +20,7 @@ use Rattle.restart.proofs.Walking.{Walking, moves_on, walked_end, walked_short, 
 use Rattle.restart.proofs.walk.walk.Given as goal
 
 abbrev pub invariant-loop-offset : goal.invariant-loop-offset
-invariant-loop-offset l =     Walking l.journal l.disk l.dated l.pending l.past l.snapshots l.copies l.copied l.heads l.at × Follows l.indexed l.index (take l.heads.pending (pendings l.pending)) × (length l.objects ≡ 16) × (length l.values ≡ 16)
+invariant-loop-offset l = Walking l.journal l.disk l.dated l.pending l.past l.snapshots l.copies l.copied l.heads l.at × Follows l.indexed l.index (take l.heads.pending (pendings l.pending)) × (length l.objects ≡ 16) × (length l.values ≡ 16)
 
 abbrev pub decreases-loop-offset : goal.decreases-loop-offset
 decreases-loop-offset l = length l.journal - l.at
