@@ -18,7 +18,6 @@ use Rattle.restart.proofs.Holding.{fresh_held, fresh_indexed}
 use Rattle.restart.proofs.Following.{follows_as, indexed_follows}
 use Rattle.restart.proofs.Walking.{Walking, moves_on, walked_end, walked_short, walked_malformed, walked_contradicts, walked_on}
 use Rattle.restart.proofs.walk.walk.Goals as goal
-use Rattle.restart.proofs.walk.walk.Goals.{In-Whole-2}
 
 pub loop-offset-init : goal.loop-offset-init
 loop-offset-init c =
@@ -41,22 +40,24 @@ pub returns-in-Malformed : goal.returns-in-Malformed
 returns-in-Malformed c = let v = c.loop-offset in
     walked_malformed v.invariant.0 (sym c.read_at.ensures ∙ c.in-Malformed.is) (c.start.ensures v.pending v.past v.snapshots v.copies v.copied)
 
--- the record that is read, from the arguments of its replay, and the that.before.before.before reads it
-there : (c : In-Whole-2)
-    → head_step (step_at c.args.journal.now c.loop-offset.at) ≡ Whole c.«record».given.0.0 c.«record».given.0.1.0
-there c = sym c.read_at.ensures ∙ c.«record».given.1
+-- the record that is read, and the turn that reads it
+pub replay-r-requires-clause-stands : goal.replay-r-requires-clause-stands
+replay-r-requires-clause-stands c = stands c.args.journal.now c.loop-offset.at (sym c.read_at.ensures ∙ c.in-Whole.is)
 
 pub returns-then-not-r : goal.returns-then-not-r
 returns-then-not-r c =
-    walked_contradicts c.loop-offset.invariant.0 (there (goal.at.returns-then-not-r c).In-Whole-2) c.replay-r.ensures.carried c.if-not-r.fact (c.start-then-not-r.ensures _ _ _ _ _)
+    walked_contradicts c.loop-offset.invariant.0 (sym c.read_at.ensures ∙ c.in-Whole.is) c.replay-r.ensures.carried (not-true _ c.if-not-r.true) (c.start-then-not-r.ensures _ _ _ _ _)
 
 pub loop-offset-smaller : goal.loop-offset-smaller
 loop-offset-smaller c =
-    let r = read (goal.at.loop-offset-smaller c).After-values-1 in
-    let m = moves_on r.before.before.before.before.before.before.before.before.args.journal.now r.before.before.before.loop.at fresh (there r) in
+    let m = moves_on c.args.journal.now c.loop-offset.at fresh (sym c.read_at.ensures ∙ c.in-Whole.is) in
     omega (arith, m.0, m.1)
 
 pub loop-offset-preserved : goal.loop-offset-preserved
 loop-offset-preserved c =
-    let e = c.replay-r.ensures in
-    (walked_on c.loop-offset.invariant.0 (there (goal.at.loop-offset-preserved c).In-Whole-2) e.0 c.if-not-r.fact, follows_as e.1.0 (sym c.indexed_after-indexed.ensures), e.1.1.0, e.1.1.1)
+    let e = c.replay-r.ensures in (
+      walked_on c.loop-offset.invariant.0 (sym c.read_at.ensures ∙ c.in-Whole.is) e.carried (not-false _ c.if-not-r.false),
+      follows_as e.follows_2 (sym c.indexed_after-indexed.ensures),
+      e.objects_len_2.0,
+      e.objects_len_2.1,
+    )
