@@ -1,5 +1,4 @@
 -- The fresh store with the answer of a start from nothing.
-use borrow.Author.Rules.{rules}
 use Rattle.model.specs.Restart.{fresh_start}
 use Rattle.restart.proofs.fresh.Goals as goal
 

@@ -1,5 +1,4 @@
 -- Each test of the journal refuses it or passes it on, as the model does, and the rest is the walk.
-use borrow.Author.Rules.{rules}
 use native.Mathlib.Omega.{arith}
 use Rattle.restart.proofs.Walking.{rebuilt_as, restart_shape, restart_empty, restart_version, restart_walk}
 use Rattle.restart.proofs.restart.Goals as goal

@@ -1,8 +1,8 @@
 -- The objects and the values are read into the fronts of two lists, and are the columns of the commit that stands there.
-use Prim.Native.Nat.{ℕ, ◌+◌}
-use mathlib.Core.Path.{◌≡◌, ap, sym, ◌∙◌}
+use Prim.Native.Nat.{◌+◌}
+use mathlib.Core.Path.{ap, sym, ◌∙◌}
 use native.Mathlib.Omega.{arith}
-use lib.ListN.{length, drop, take}
+use lib.ListN.{drop}
 use lib.Seq.{length-take-le}
 use lib.Dec.{ltb}
 use Rattle.model.specs.Lists.{all_b, twice_b}

@@ -1,11 +1,7 @@
 -- The words passed are 0.
 use Prim.Native.Nat.{ℕ, ◌≤◌, ◌<◌, ◌-◌}
 use mathlib.Core.Path.{◌≡◌}
-use native.Mathlib.Omega.{arith}
-use lib.ListN.{length, get_or, length-set}
-use borrow.Author.Rules.{rules}
-use Rattle.tables.proofs.Marks.{clear_more}
-use Rattle.restart.proofs.Zeros.{all_zeros}
+use lib.ListN.{length, get_or}
 use Rattle.restart.proofs.empty.clear.Given as goal
 
 abbrev pub invariant-loop-i : goal.invariant-loop-i

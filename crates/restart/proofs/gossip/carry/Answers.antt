@@ -1,8 +1,6 @@
 -- The verdict and the writer make the turn of the message.
-use borrow.Author.Rules.{rules}
 use mathlib.Core.Path.{sym, ◌∙◌}
-use borrow.Author.Tests.{not-true, not-false}
-use Rattle.restart.proofs.Turning.{gossip_ready, gossip_no, gossip_yes}
+use Rattle.restart.proofs.Turning.{gossip_ready, gossip_yes}
 use Rattle.restart.proofs.gossip.carry.Goals as goal
 
 pub apply_gossip-heads-requires : goal.apply_gossip-heads-requires

@@ -1,5 +1,5 @@
 -- The stamps are read into the front of an array, and are the column of the message that stands there.
-use Prim.Native.Nat.{ℕ, ◌+◌}
+use Prim.Native.Nat.{◌+◌}
 use mathlib.Core.Path.{ap, sym, ◌∙◌}
 use native.Mathlib.Omega.{arith}
 use lib.ListN.{drop}

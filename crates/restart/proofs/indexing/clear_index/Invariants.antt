@@ -1,10 +1,7 @@
 -- The objects passed have 128.
 use Prim.Native.Nat.{ℕ, ◌≤◌, ◌<◌, ◌-◌}
 use mathlib.Core.Path.{◌≡◌}
-use native.Mathlib.Omega.{arith}
-use lib.ListN.{length, get_or, length-set}
-use borrow.Author.Rules.{rules}
-use Rattle.restart.proofs.Entered.{clear_more, clear_all}
+use lib.ListN.{length, get_or}
 use Rattle.restart.proofs.indexing.clear_index.Given as goal
 
 abbrev pub invariant-loop-i : goal.invariant-loop-i

@@ -1,13 +1,8 @@
 -- The index is that of the entries passed.
-use borrow.Author.Rules.{rules}
-use Prim.Native.Nat.{ℕ, ◌≤◌, ◌<◌, ◌-◌}
-use mathlib.Core.Path.{◌≡◌, ap, sym, subst}
-use native.Mathlib.Omega.{arith}
+use Prim.Native.Nat.{◌≤◌, ◌-◌}
 use lib.ListN.{take}
 use Rattle.tables.specs.Rows.{pendings}
 use Rattle.tables.specs.Lookups.{Indexed}
-use Rattle.tables.proofs.Indexing.{index_start}
-use Rattle.restart.proofs.Entered.{object_in, entered}
 use Rattle.restart.proofs.indexing.index_entries.Given as goal
 
 abbrev pub invariant-loop-i : goal.invariant-loop-i
