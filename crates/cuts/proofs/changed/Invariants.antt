@@ -1,0 +1,12 @@
+-- `changed` is safe and ends: the measure is the number of bytes left. The journal keeps its length.
+use Prim.Native.Nat.{◌-◌}
+use mathlib.Core.Path.{◌≡◌}
+use lib.ListN.{length}
+use borrow.Author.Rules.{rules}
+use Rattle.cuts.proofs.changed.Given as goal
+
+abbrev pub invariant-loop-i : goal.invariant-loop-i
+invariant-loop-i l = length l.initial.i ≡ length l.rt
+
+abbrev pub decreases-loop-i : goal.decreases-loop-i
+decreases-loop-i l = length l.rt - l.i
