@@ -6,7 +6,7 @@ use borrow.Author.Rules.{rules}
 use Rattle.cuts.proofs.changed.Given as goal
 
 abbrev pub invariant-loop-i : goal.invariant-loop-i
-invariant-loop-i l = length l.initial.i ≡ length l.rt
+invariant-loop-i l = length l.journal ≡ length l.initial.journal
 
 abbrev pub decreases-loop-i : goal.decreases-loop-i
-decreases-loop-i l = length l.rt - l.i
+decreases-loop-i l = length l.initial.journal - l.i

@@ -4,8 +4,5 @@ use lib.ListN.{length}
 use borrow.Author.Rules.{rules}
 use Rattle.cuts.proofs.cuts.Given as goal
 
-abbrev pub invariant-loop-n : goal.invariant-loop-n
-invariant-loop-n l = Unit {0}
-
 abbrev pub decreases-loop-n : goal.decreases-loop-n
-decreases-loop-n l = length l.rt - l.?
+decreases-loop-n l = length l.journal - l.n

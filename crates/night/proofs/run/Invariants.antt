@@ -7,7 +7,7 @@ use lib.ListN.{length}
 use Rattle.night.proofs.run.Given as goal
 
 abbrev pub invariant-loop-i : goal.invariant-loop-i
-invariant-loop-i l = length l.journal ≡ length l.initial.copied
+invariant-loop-i l = length l.journal ≡ length l.initial.journal
 
 abbrev pub decreases-loop-i : goal.decreases-loop-i
-decreases-loop-i l = length l.initial.journal - l.i
+decreases-loop-i l = length l.rows - l.i
