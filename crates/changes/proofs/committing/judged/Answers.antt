@@ -1,6 +1,5 @@
 -- Where the writes fit whatever they add there is room for them; else they are weighed.
 use mathlib.Core.Path.{◌∙◌, sym}
-use borrow.Author.Rules.{rules}
 use Rattle.model.specs.Changes.{paired}
 use Rattle.commits.proofs.Judged.{roomy_room}
 use Rattle.changes.proofs.committing.judged.Goals as goal

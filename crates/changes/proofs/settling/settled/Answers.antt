@@ -1,6 +1,5 @@
 -- Each arm's answer is the model's for its verdict, whatever change has the given length.
-use borrow.Author.Rules.{rules}
-use Rattle.changes.proofs.Rooms.{settled_done, settled_no_room, settled_idle, settled_refused}
+use Rattle.changes.proofs.Rooms.{settled_done, settled_no_room}
 use Rattle.changes.proofs.settling.settled.Goals as goal
 
 pub returns-then-reached-journal : goal.returns-then-reached-journal

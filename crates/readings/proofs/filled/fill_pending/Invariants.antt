@@ -1,7 +1,5 @@
 -- Every index is below the count of rows, and every word fits.
 use Prim.Native.Nat.{◌≤◌, ◌-◌}
-use native.Mathlib.Omega.{arith}
-use borrow.Author.Rules.{rules}
 use Rattle.readings.proofs.filled.fill_pending.Given as goal
 
 abbrev pub invariant-loop-i : goal.invariant-loop-i
