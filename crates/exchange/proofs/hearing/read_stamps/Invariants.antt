@@ -1,12 +1,9 @@
 -- What is filled, with what is left to read, is the whole column.
 use Prim.Native.Nat.{◌≤◌, ◌-◌, ◌+◌, ◌*◌}
-use mathlib.Core.Path.{◌≡◌, ◌∙◌, refl}
+use mathlib.Core.Path.{◌≡◌}
 use mathlib.Core.List.{◌++◌}
-use native.Mathlib.Omega.{arith}
-use lib.ListN.{take, drop, length, length-set}
-use borrow.Author.Rules.{rules}
+use lib.ListN.{take, drop, length}
 use Rattle.model.specs.Bytes.{column}
-use Rattle.fields.proofs.Laws.{column_start, column_turn, column_end}
 use Rattle.exchange.proofs.hearing.read_stamps.Given as goal
 
 abbrev pub invariant-loop-i : goal.invariant-loop-i
