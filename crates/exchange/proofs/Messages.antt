@@ -1,5 +1,5 @@
 -- The model's `hear` is the gossip that bytes with a frame and shaped stamps tell; other bytes are unheard.
-use Prim.Native.Nat.{ℕ, ◌+◌, ◌*◌, ◌-◌, ◌≤◌, ◌<◌, zero-le}
+use Prim.Native.Nat.{ℕ, ◌+◌, ◌*◌, ◌-◌, ◌≤◌, ◌<◌}
 use mathlib.Core.Path.{◌≡◌, refl, ap, sym, ◌∙◌, subst}
 use mathlib.Core.Bool.{Bool, true, false}
 use mathlib.Core.List.{List, [], ◌∷◌, ◌++◌}
@@ -11,14 +11,13 @@ use borrow.Author.Tests.{leb-true, eqb-true, le-leb, lt-leb, le-ltb, eq-eqb, ne_
 use Rattle.model.specs.declared.Answer.{Answer}
 use Rattle.model.specs.declared.Answer.TheVariants.{Damaged, Malformed}
 use Rattle.model.specs.Lists.{both, either, pick, empty_b}
-use Rattle.model.specs.Answers.{code_of}
 use Rattle.model.specs.Bytes.{from_be, column}
 use Rattle.model.specs.Store.{Store}
 use Rattle.model.specs.Damage.{damaged}
 use Rattle.model.specs.Changes.{gossip}
 use Rattle.model.specs.Judgement.{stamps_shaped, well_formed}
 use Rattle.model.specs.Records.{length_of, commit_in, gossip_in, flush_in, Decoded, bad, good, checked, decode, Step, malformed, whole, step_of, step_on}
-use Rattle.model.specs.Calls.{Outcome, answer_to, change, gossip_call}
+use Rattle.model.specs.Calls.{gossip_call}
 use Rattle.model.specs.Exchange.{heard_step, unheard, hear}
 use Rattle.journal.specs.declared.walk.GossipHead.{GossipHead}
 use Rattle.journal.proofs.Walks.{column_length}
