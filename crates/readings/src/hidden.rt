@@ -1,5 +1,5 @@
 // What is no damage: the same oddities in rows past their count, a dead past row, and rows at the ends of their range.
-use crate::damage::sound;
+use crate::damages::sound;
 use crate::small::every;
 use crate::store::Small;
 

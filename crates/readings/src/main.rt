@@ -5,7 +5,7 @@
 mod bounds;
 mod calls;
 mod clocks;
-mod damage;
+mod damages;
 mod entries;
 mod filled;
 mod fresh;
@@ -26,7 +26,7 @@ fn main(rt: HostRuntime) {
     fresh::lines(&rt);
     bounds::lines(&rt);
     full::lines(&rt);
-    damage::lines(&rt);
+    damages::lines(&rt);
     lasts::lines(&rt);
     hidden::lines(&rt);
     served::lines(&rt);
