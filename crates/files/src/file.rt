@@ -4,7 +4,7 @@ ghost use Rattle.io.specs.Counts.{IsPrefixLen};
 
 use crate::{identity, names, paths, torn, trouble};
 use std::fs::File;
-use std::io::{Result, Seek, SeekFrom, Write};
+use std::io::{Error, ErrorKind, Result, Seek, SeekFrom, Write};
 use std::os::unix::fs::FileExt;
 
 // A place as the system counts it. No place in a journal lies beyond these, and there is none of the last number.
@@ -154,13 +154,23 @@ pub fn is_settled(rt: &HostRuntime, path: &[u8], file: &File, read: &[u8], to: u
 }
 
 // How many bytes were written: none where it failed, after a word on standard error.
+// What std says of a writer that takes no byte.
+fn nothing_written() -> Error {
+    Error::new(ErrorKind::WriteZero, "failed to write whole buffer")
+}
+
 fn write_from(rt: &HostRuntime, path: &[u8], file: &File, bytes: &[u8], at: usize) -> usize
     requires { at ≤ length bytes.now }
     ensures { at + result ≤ length bytes.now }
 {
     let rest = &bytes[at..];
     match file.write_at(rest, offset(at)) {
-        Ok(put) => paths::within(put, rest),
+        Ok(put) => {
+            if put == 0 {
+                trouble::fail(rt, path, &nothing_written());
+            }
+            paths::within(put, rest)
+        }
         Err(error) => {
             trouble::fail(rt, path, &error);
             0

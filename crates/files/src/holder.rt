@@ -1,11 +1,15 @@
 // Who holds a lock, as a line: `PROCESS START BOOT`, the process's number, its start as the system counts it, and the run of the
 // machine that both are of. A number is used again, by another start or in another run; the three together aren't.
+ghost use Rattle.std.specs.Prelude.{◌≤◌, length};
 ghost use Rattle.io.specs.Counts.{IsPrefixLen};
 
 use crate::{identity, names, paths};
 use std::io::Read;
 use std::os::unix::process::parent_id;
 use std::process;
+
+// Parts of a small file: none has so many.
+const PARTS: u64 = 1048576;
 
 // The bytes of a small file, as many as there is room for.
 pub fn text_of(rt: &HostRuntime, name: &[u8], out: &mut [u8]) -> usize
@@ -140,8 +144,76 @@ fn is_shown(rt: &HostRuntime, process: u64) -> bool {
     !identity::of_name(rt, &name[..b]).absent
 }
 
-// One that /proc doesn't show may be there all the same, where not even the first process is shown: then there is no /proc, or it
-// hides what isn't ours.
+// Whether /proc tells of the processes that our numbers are of: there it calls this one by its own number.
+fn is_of_ours(rt: &HostRuntime) -> bool {
+    let mut told = [0u8; 64];
+    let n = text_of(rt, b"/proc/self/stat", &mut told);
+    paths::number(&told[..n]) == own(rt)
+}
+
+// How many bytes of the word stand right before this place, where it was m before this byte; all of it, once it was met.
+fn met_to(word: &[u8], m: usize, byte: u8) -> usize
+    requires { m ≤ length word.now }
+    ensures { result ≤ length word.now }
+{
+    if m == word.len() {
+        return m;
+    }
+    if word[m] == byte {
+        return m + 1;
+    }
+    if word[0] == byte { 1 } else { 0 }
+}
+
+fn met_in(word: &[u8], before: usize, bytes: &[u8]) -> usize
+    requires { before ≤ length word.now }
+    ensures { result ≤ length word.now }
+{
+    let mut m = before;
+    for byte in bytes {
+        m = met_to(word, m, *byte);
+    }
+    m
+}
+
+// Whether the word stands in a file, or may, since the file can't be read to its end. Its first byte stands in it but once.
+fn may_stand(rt: &HostRuntime, name: &[u8], word: &[u8]) -> bool {
+    let Ok(mut file) = names::open_read(rt, name) else {
+        return true;
+    };
+    let mut part = io::buffer();
+    let mut m = 0;
+    for _ in 0..PARTS {
+        let Ok(got) = file.read(&mut part) else {
+            return true;
+        };
+        let n = paths::within(got, &part);
+        if n == 0 {
+            return m == word.len();
+        }
+        m = met_in(word, m, &part[..n]);
+    }
+    true
+}
+
+// Whether a process that /proc doesn't show may be there all the same. It may where /proc is none, or not of our processes; and where it
+// hides other users' processes. From the system's own user it hides none, and where it shows the first process and that is
+// another user's, it hides none either.
+fn may_be_hidden(rt: &HostRuntime) -> bool {
+    if !is_of_ours(rt) {
+        return true;
+    }
+    let ours = identity::of_name(rt, b"/proc/self").owner;
+    if ours == 0 {
+        return false;
+    }
+    let first = identity::of_name(rt, b"/proc/1");
+    if first.found && first.owner != ours {
+        return false;
+    }
+    may_stand(rt, b"/proc/self/mountinfo", b"hidepid=")
+}
+
 fn exists(rt: &HostRuntime, process: u64) -> bool {
     if process == 0 {
         return false;
@@ -152,7 +224,7 @@ fn exists(rt: &HostRuntime, process: u64) -> bool {
     if is_shown(rt, process) {
         return true;
     }
-    !is_shown(rt, 1)
+    may_be_hidden(rt)
 }
 
 // A line of the number alone is left from an earlier process if the number is our own.
