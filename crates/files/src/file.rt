@@ -153,12 +153,12 @@ pub fn is_settled(rt: &HostRuntime, path: &[u8], file: &File, read: &[u8], to: u
     is_synced(rt, path, file)
 }
 
-// How many bytes were written: none where it failed, after a word on standard error.
 // What std says of a writer that takes no byte.
 fn nothing_written() -> Error {
     Error::new(ErrorKind::WriteZero, "failed to write whole buffer")
 }
 
+// How many bytes were written: none where it failed, after a word on standard error.
 fn write_from(rt: &HostRuntime, path: &[u8], file: &File, bytes: &[u8], at: usize) -> usize
     requires { at ≤ length bytes.now }
     ensures { at + result ≤ length bytes.now }

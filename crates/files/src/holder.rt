@@ -197,16 +197,12 @@ fn may_stand(rt: &HostRuntime, name: &[u8], word: &[u8]) -> bool {
 }
 
 // Whether a process that /proc doesn't show may be there all the same. It may where /proc is none, or not of our processes; and where it
-// hides other users' processes. From the system's own user it hides none, and where it shows the first process and that is
-// another user's, it hides none either.
+// hides other users' processes. Where it shows the first process and that is another user's, it hides none.
 fn may_be_hidden(rt: &HostRuntime) -> bool {
     if !is_of_ours(rt) {
         return true;
     }
     let ours = identity::of_name(rt, b"/proc/self").owner;
-    if ours == 0 {
-        return false;
-    }
     let first = identity::of_name(rt, b"/proc/1");
     if first.found && first.owner != ours {
         return false;
