@@ -11,6 +11,9 @@ use std::process;
 // Parts of a small file: none has so many.
 const PARTS: u64 = 1048576;
 
+// The digit that bit 19 is in.
+const LOOKING: usize = 11;
+
 // The bytes of a small file, as many as there is room for.
 pub fn text_of(rt: &HostRuntime, name: &[u8], out: &mut [u8]) -> usize
     ensures { IsPrefixLen result out.new }
@@ -165,6 +168,20 @@ fn met_to(word: &[u8], m: usize, byte: u8) -> usize
     if word[0] == byte { 1 } else { 0 }
 }
 
+// Behind the word's first place in a text, or the text's end.
+fn behind_word(text: &[u8], word: &[u8]) -> usize
+    ensures { IsPrefixLen result text.now }
+{
+    let mut m = 0;
+    for (i, byte) in text.iter().enumerate() {
+        if m == word.len() {
+            return i;
+        }
+        m = met_to(word, m, *byte);
+    }
+    text.len()
+}
+
 fn met_in(word: &[u8], before: usize, bytes: &[u8]) -> usize
     requires { before ≤ length word.now }
     ensures { result ≤ length word.now }
@@ -196,11 +213,29 @@ fn may_stand(rt: &HostRuntime, name: &[u8], word: &[u8]) -> bool {
     true
 }
 
+// A digit of hex with its highest bit.
+fn is_high(digit: u8) -> bool {
+    digit == b'8' || digit == b'9' || (b'a' <= digit && digit <= b'f')
+}
+
+// Whether this program may look into every process, from which nothing is hidden: bit 19 of its rights, which are sixteen digits of hex.
+fn may_look_everywhere(rt: &HostRuntime) -> bool {
+    let mut told = io::buffer();
+    let n = text_of(rt, b"/proc/self/status", &mut told);
+    let status = &told[..n];
+    let at = behind_word(status, b"CapEff:\t");
+    let rights = &status[at..];
+    LOOKING < rights.len() && is_high(rights[LOOKING])
+}
+
 // Whether a process that /proc doesn't show may be there all the same. It may where /proc is none, or not of our processes; and where it
 // hides other users' processes. Where it shows the first process and that is another user's, it hides none.
 fn may_be_hidden(rt: &HostRuntime) -> bool {
     if !is_of_ours(rt) {
         return true;
+    }
+    if may_look_everywhere(rt) {
+        return false;
     }
     let ours = identity::of_name(rt, b"/proc/self").owner;
     let first = identity::of_name(rt, b"/proc/1");
