@@ -192,19 +192,18 @@ def a_lock_of_a_zombie(bench):
     talk.kill()
 
 
-def hiding(words):
+def hiding(words, *before):
     """A command that is run where nobody sees another user's processes."""
     hide = 'mount -t proc -o hidepid=2 proc /proc && exec setpriv --reuid 65534 --regid 65534 --clear-groups "$@"'
-    return ["unshare", "--mount", "sh", "-c", hide, "sh", *words]
+    return ["unshare", "--mount", "sh", "-c", hide, "sh", *before, *words]
 
 
-@test
-def a_lock_of_the_living_that_proc_hides(bench):
+def expect_respected_unseen(bench, *before):
     """Where another user's processes are not shown, their locks are respected all the same."""
     as_nobody(bench)
     if os.geteuid() != 0 or shutil.which("unshare") is None:
         raise Skipped("hiding processes is not permitted here")
-    if subprocess.run(hiding(["true"]), capture_output=True).returncode != 0:
+    if subprocess.run(hiding(["true"], *before), capture_output=True).returncode != 0:
         raise Skipped("hiding processes is not permitted here")
     path, process = own_folder(bench), sleeper()
     put_early(path, a_journal(8).journal)
@@ -212,11 +211,22 @@ def a_lock_of_the_living_that_proc_hides(bench):
     for name in (os.path.dirname(path), path, path + ".lock"):
         os.chown(name, NOBODY, NOBODY)
     try:
-        done = subprocess.run(hiding([bench.bare.path, path]), input=b"standing\n", capture_output=True, timeout=30)
+        done = subprocess.run(hiding([bench.bare.path, path], *before), input=b"standing\n", capture_output=True, timeout=30)
         expect(done.stdout == b"", "the lock is passed over:", shown(done.stdout), shown(done.stderr))
         expect(done.stderr.decode() == held_word(path, process.pid) + "\n", "it says", shown(done.stderr))
     finally:
         end_all([process])
+
+
+@test
+def a_lock_of_the_living_that_proc_hides(bench):
+    expect_respected_unseen(bench)
+
+
+@test
+def a_lock_of_the_living_beyond_our_users(bench):
+    """A program with every right among users of its own has none over others' processes."""
+    expect_respected_unseen(bench, "unshare", "--user", "--map-root-user")
 
 
 @test

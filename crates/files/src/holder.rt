@@ -218,8 +218,19 @@ fn is_high(digit: u8) -> bool {
     digit == b'8' || digit == b'9' || (b'a' <= digit && digit <= b'f')
 }
 
-// Whether this program may look into every process, from which nothing is hidden: bit 19 of its rights, which are sixteen digits of hex.
+// Whether this program's users are the system's own, all of them. Else its rights are none over other users' processes.
+fn has_all_users(rt: &HostRuntime) -> bool {
+    let mut told = [0u8; 64];
+    let n = text_of(rt, b"/proc/self/uid_map", &mut told);
+    let word = b" 4294967295";
+    met_in(word, 0, &told[..n]) == word.len()
+}
+
+// Whether this program may look into every process, so that nothing is hidden from it: bit 19 of its rights, which are sixteen digits of hex.
 fn may_look_everywhere(rt: &HostRuntime) -> bool {
+    if !has_all_users(rt) {
+        return false;
+    }
     let mut told = io::buffer();
     let n = text_of(rt, b"/proc/self/status", &mut told);
     let status = &told[..n];
