@@ -6,17 +6,11 @@ use Rattle.model.specs.Store as model
 use Rattle.model.specs.Calls.{Outcome}
 use Rattle.model.specs.Reads as reads
 use Rattle.model.specs.Restart as starts
-use Rattle.tables.specs.Contents.{contents}
 use Rattle.reads.specs.Knows.{padded}
-use Rattle.repository.specs.declared.Store.{Store}
 use Rattle.repository.specs.declared.Moved.{Moved}
 use Rattle.repository.specs.declared.Reply.{Reply}
 use Rattle.repository.specs.declared.Report.{Report}
 use Rattle.repository.specs.declared.Knowledge.{Knowledge}
-
--- the store that the struct holds
-abbrev pub stored : Store → model.Store
-stored s = contents s.disk s.dated s.pending s.past s.snapshots s.copies s.copied s.heads
 
 -- an answer and a place, as the caller is told them
 pub record Told (answer : Answer) (place : ℕ) (r : Moved) : Type 0 where

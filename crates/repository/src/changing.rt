@@ -1,6 +1,7 @@
 // The faces that change the store: commit, gossip and flush, each with its journal.
 ghost use Rattle.model.specs.Calls.{commit_call, gossip_call, flush_call};
-ghost use Rattle.repository.specs.Faces.{stored, Changed};
+ghost use Rattle.tables.specs.Contents.{stored};
+ghost use Rattle.repository.specs.Faces.{Changed};
 
 use crate::{Moved, Store};
 
@@ -17,10 +18,10 @@ pub extern "C" fn jibcradle_commit(
     ensures { Changed (commit_call (stored store.old) journal.old used t objects.now values.now) result (stored store.new) journal.new }
 {
     let s = crate::steps::commit(
-        &mut store.disk,
-        &mut store.dated,
-        &mut store.pending,
-        &mut store.past,
+        &mut store.written.disk,
+        &mut store.written.dated,
+        &mut store.written.pending,
+        &mut store.written.past,
         &mut store.snapshots,
         &mut store.copies,
         &mut store.copied,
@@ -48,10 +49,10 @@ pub extern "C" fn jibcradle_gossip(
     ensures { Changed (gossip_call (stored store.old) journal.old used prev curr stamps.now) result (stored store.new) journal.new }
 {
     let s = crate::steps::gossip(
-        &mut store.disk,
-        &mut store.dated,
-        &mut store.pending,
-        &mut store.past,
+        &mut store.written.disk,
+        &mut store.written.dated,
+        &mut store.written.pending,
+        &mut store.written.past,
         &mut store.snapshots,
         &mut store.copies,
         &mut store.copied,
@@ -77,10 +78,10 @@ pub extern "C" fn jibcradle_flush(
     ensures { Changed (flush_call (stored store.old) journal.old used page) result (stored store.new) journal.new }
 {
     let s = crate::steps::flush(
-        &mut store.disk,
-        &mut store.dated,
-        &mut store.pending,
-        &mut store.past,
+        &mut store.written.disk,
+        &mut store.written.dated,
+        &mut store.written.pending,
+        &mut store.written.past,
         &mut store.snapshots,
         &mut store.copies,
         &mut store.copied,

@@ -1,6 +1,7 @@
 // The faces of the exchange with a coordinator: a request for what the store missed, and a message as bytes.
 ghost use Rattle.model.specs.Exchange as model;
-ghost use Rattle.repository.specs.Faces.{stored, Shown, Changed};
+ghost use Rattle.tables.specs.Contents.{stored};
+ghost use Rattle.repository.specs.Faces.{Shown, Changed};
 
 use crate::{Moved, Reply, Store};
 
@@ -10,10 +11,10 @@ pub extern "C" fn jibcradle_ask(store: &Store, to: u64, buffer: &mut [u8]) -> Re
     ensures { Shown (model.ask (stored store.now) to buffer.old) result buffer.new }
 {
     crate::steps::ask(
-        &store.disk,
-        &store.dated,
-        &store.pending,
-        &store.past,
+        &store.written.disk,
+        &store.written.dated,
+        &store.written.pending,
+        &store.written.past,
         &store.snapshots,
         &store.copies,
         &store.copied,
@@ -34,10 +35,10 @@ pub extern "C" fn jibcradle_hear(
     ensures { Changed (model.hear (stored store.old) journal.old used message.now) result (stored store.new) journal.new }
 {
     let s = crate::steps::hear(
-        &mut store.disk,
-        &mut store.dated,
-        &mut store.pending,
-        &mut store.past,
+        &mut store.written.disk,
+        &mut store.written.dated,
+        &mut store.written.pending,
+        &mut store.written.past,
         &mut store.snapshots,
         &mut store.copies,
         &mut store.copied,

@@ -8,20 +8,7 @@ pub mod reading;
 pub mod starting;
 pub mod steps;
 
-use tables::{Copied, CopyTable, Disk, Heads, PastTable, PendingTable, Snapshots};
-
-#[repr(C)]
-#[derive(Drop)]
-pub struct Store {
-    pub disk: Disk,
-    pub dated: Disk,
-    pub pending: PendingTable,
-    pub past: PastTable,
-    pub snapshots: Snapshots,
-    pub copies: CopyTable,
-    pub copied: Copied,
-    pub heads: Heads,
-}
+pub use tables::Store;
 
 // What a change or a start answers: the paper's code and number, and the place for the next call.
 #[repr(C)]

@@ -1,6 +1,7 @@
 // The faces that only read: the tables are lent out of the struct, and the struct stays as it is.
 ghost use Rattle.model.specs.Reads as reads;
-ghost use Rattle.repository.specs.Faces.{stored, Shown, Stood, Knew};
+ghost use Rattle.tables.specs.Contents.{stored};
+ghost use Rattle.repository.specs.Faces.{Shown, Stood, Knew};
 
 use crate::{Knowledge, Reply, Report, Store};
 
@@ -15,10 +16,10 @@ pub extern "C" fn jibcradle_snapshot_read(
     ensures { Shown (reads.snapshot_read (stored store.now) time page buffer.old) result buffer.new }
 {
     crate::steps::snapshot_read(
-        &store.disk,
-        &store.dated,
-        &store.pending,
-        &store.past,
+        &store.written.disk,
+        &store.written.dated,
+        &store.written.pending,
+        &store.written.past,
         &store.snapshots,
         &store.copies,
         &store.copied,
@@ -40,10 +41,10 @@ pub extern "C" fn jibcradle_clock_read(
     ensures { Shown (reads.clock_read (stored store.now) tick page buffer.old) result buffer.new }
 {
     crate::steps::clock_read(
-        &store.disk,
-        &store.dated,
-        &store.pending,
-        &store.past,
+        &store.written.disk,
+        &store.written.dated,
+        &store.written.pending,
+        &store.written.past,
         &store.snapshots,
         &store.copies,
         &store.copied,
@@ -60,10 +61,10 @@ pub extern "C" fn jibcradle_current_read(store: &Store, page: u64, buffer: &mut 
     ensures { Shown (reads.current_read (stored store.now) page buffer.old) result buffer.new }
 {
     crate::steps::current_read(
-        &store.disk,
-        &store.dated,
-        &store.pending,
-        &store.past,
+        &store.written.disk,
+        &store.written.dated,
+        &store.written.pending,
+        &store.written.past,
         &store.snapshots,
         &store.copies,
         &store.copied,
@@ -79,10 +80,10 @@ pub extern "C" fn jibcradle_standing(store: &Store) -> Report
     ensures { Stood (reads.standing (stored store.now)) result }
 {
     crate::steps::standing(
-        &store.disk,
-        &store.dated,
-        &store.pending,
-        &store.past,
+        &store.written.disk,
+        &store.written.dated,
+        &store.written.pending,
+        &store.written.past,
         &store.snapshots,
         &store.copies,
         &store.copied,
@@ -96,10 +97,10 @@ pub extern "C" fn jibcradle_known(store: &Store) -> Knowledge
     ensures { Knew (reads.known (stored store.now)) result }
 {
     crate::steps::known(
-        &store.disk,
-        &store.dated,
-        &store.pending,
-        &store.past,
+        &store.written.disk,
+        &store.written.dated,
+        &store.written.pending,
+        &store.written.past,
         &store.snapshots,
         &store.copies,
         &store.copied,

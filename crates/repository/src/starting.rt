@@ -1,6 +1,7 @@
 // The faces that start a store: from nothing, and from a journal. Whatever the struct held before is gone.
 ghost use Rattle.model.specs.Restart as starts;
-ghost use Rattle.repository.specs.Faces.{stored, Begun};
+ghost use Rattle.tables.specs.Contents.{stored};
+ghost use Rattle.repository.specs.Faces.{Begun};
 
 use crate::{Moved, Store};
 
@@ -10,10 +11,10 @@ pub extern "C" fn jibcradle_fresh(store: &mut Store) -> Moved
     ensures { Begun starts.fresh_start result (stored store.new) }
 {
     let s = crate::steps::fresh(
-        &mut store.disk,
-        &mut store.dated,
-        &mut store.pending,
-        &mut store.past,
+        &mut store.written.disk,
+        &mut store.written.dated,
+        &mut store.written.pending,
+        &mut store.written.past,
         &mut store.snapshots,
         &mut store.copies,
         &mut store.copied,
@@ -28,10 +29,10 @@ pub extern "C" fn jibcradle_restart(store: &mut Store, journal: &[u8]) -> Moved
     ensures { Begun (starts.restart journal.now) result (stored store.new) }
 {
     let s = crate::steps::restart(
-        &mut store.disk,
-        &mut store.dated,
-        &mut store.pending,
-        &mut store.past,
+        &mut store.written.disk,
+        &mut store.written.dated,
+        &mut store.written.pending,
+        &mut store.written.past,
         &mut store.snapshots,
         &mut store.copies,
         &mut store.copied,

@@ -43,6 +43,27 @@ pub struct Heads {
     pub last: u64,
 }
 
+// What the commits wrote: each object's value on disk and the stamp of that, the pending entries, the past values.
+#[repr(C)]
+#[derive(Drop)]
+pub struct Written {
+    pub disk: Disk,
+    pub dated: Disk,
+    pub pending: PendingTable,
+    pub past: PastTable,
+}
+
+// The whole store: its tables, and their heads, which say how many rows of each count.
+#[repr(C)]
+#[derive(Drop)]
+pub struct Store {
+    pub written: Written,
+    pub snapshots: Snapshots,
+    pub copies: CopyTable,
+    pub copied: Copied,
+    pub heads: Heads,
+}
+
 #[derive(Clone, Copy)]
 pub struct CopyHead {
     pub page: u64,
