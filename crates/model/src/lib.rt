@@ -3,7 +3,7 @@
 #![tactic(auto)]
 
 ghost use Rattle.std.specs.Prelude.{◌≡◌};
-ghost use Rattle.model.specs.Answers.{code_of, number_of};
+ghost use Rattle.model.specs.Answers.{code_of, number_of, is_done};
 
 // An object's change since the last flush: its first stamp, its latest stamp, its value.
 #[derive(Clone, Copy)]
@@ -72,6 +72,13 @@ pub enum Verdict {
 }
 
 impl Answer {
+    // The change is made, or the page is shown.
+    pub fn is_done(self) -> bool
+        ensures { result ≡ is_done self }
+    {
+        matches!(self, Answer::Done(_))
+    }
+
     pub fn code(self) -> u64
         ensures { result ≡ code_of self }
     {
