@@ -398,9 +398,6 @@ pub fn standing_anew(store: &Store) -> Option<Figures>
 pub fn known_anew(store: &Store) -> Option<KnowledgeAnew<'_>>
     ensures { KnowsAnew (model.known (stored store.now)) result }
 {
-    if damage::out_of_range_anew(store) {
-        return None;
-    }
     if damage::damaged_anew(store) {
         return None;
     }
