@@ -409,3 +409,13 @@ pub fn known_anew(store: &Store) -> Option<KnowledgeAnew<'_>>
         snapshots: &snapshots[..h.snapshots],
     })
 }
+
+// Snapshots, and zeros behind them up to as many as a store has at most.
+pub fn padded(stamps: &[u64]) -> [u64; 64]
+    requires { length stamps.now ≤ 64 }
+    ensures { result ≡ padded stamps.now }
+{
+    let mut all = [0u64; 64];
+    all[..stamps.len()].copy_from_slice(stamps);
+    all
+}
