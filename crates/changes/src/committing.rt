@@ -4,14 +4,15 @@ ghost use Rattle.model.specs.Lists.{both};
 ghost use Rattle.model.specs.Changes.{paired};
 ghost use Rattle.model.specs.Judgement.{objects_shaped, judge_commit};
 ghost use Rattle.model.specs.Calls.{journal_shaped, commit_call};
-ghost use Rattle.tables.specs.Contents.{contents};
+ghost use Rattle.tables.specs.Contents.{contents, stored};
 ghost use Rattle.commits.specs.Promises.{Ready};
 ghost use Rattle.changes.specs.Left.{Left};
+ghost use Rattle.changes.specs.Kept.{CommitKept};
 
-use crate::settling::Changed;
+use crate::settling::{Changed, ChangedAnew};
 use journal::place::Place;
 use model::{Answer, Verdict};
-use tables::{Copied, CopyTable, Disk, Heads, PastTable, PendingTable, Snapshots};
+use tables::{Copied, CopyTable, Disk, Heads, PastTable, PendingTable, Snapshots, Store};
 
 // The lists and the journal have a shape that a commit can have.
 pub fn commit_shaped(journal: &[u8], used: Place, objects: &[u64], values: &[u64]) -> bool
@@ -110,5 +111,39 @@ pub fn commit(
         heads,
         answer,
         place,
+    }
+}
+
+// Writes the objects' values at the stamp t.
+pub fn commit_anew(
+    store: &mut Store,
+    journal: &mut [u8],
+    used: Place,
+    t: u64,
+    objects: &[u64],
+    values: &[u64],
+) -> ChangedAnew
+    ensures left { Left (commit_call (stored store.old) journal.old used.at t objects.now values.now) result.answer (stored store.new) journal.new result.place.at }
+    ensures kept { CommitKept store.old store.new }
+{
+    let c = commit(
+        &store.written.disk,
+        &store.written.dated,
+        &mut store.written.pending,
+        &mut store.written.past,
+        &store.snapshots,
+        &store.copies,
+        &store.copied,
+        store.heads,
+        journal,
+        used,
+        t,
+        objects,
+        values,
+    );
+    store.heads = c.heads;
+    ChangedAnew {
+        answer: c.answer,
+        place: c.place,
     }
 }

@@ -1,13 +1,14 @@
 // Flush, with its journal.
 ghost use Rattle.std.specs.Prelude.{◌≡◌};
 ghost use Rattle.model.specs.Calls.{flush_call};
-ghost use Rattle.tables.specs.Contents.{contents};
+ghost use Rattle.tables.specs.Contents.{contents, stored};
 ghost use Rattle.changes.specs.Left.{Left};
+ghost use Rattle.changes.specs.Kept.{FlushKept};
 
-use crate::settling::Changed;
+use crate::settling::{Changed, ChangedAnew};
 use journal::place::Place;
 use model::Answer;
-use tables::{Copied, CopyTable, Disk, Heads, PastTable, PendingTable, Snapshots};
+use tables::{Copied, CopyTable, Disk, Heads, PastTable, PendingTable, Snapshots, Store};
 
 pub fn flush(
     disk: &mut Disk,
@@ -99,5 +100,35 @@ pub fn flush(
         heads,
         answer,
         place,
+    }
+}
+
+// Flushes a page: copies for the due snapshots, and its pending values to disk.
+pub fn flush_anew(
+    store: &mut Store,
+    journal: &mut [u8],
+    used: Place,
+    page: u64,
+) -> ChangedAnew
+    ensures left { Left (flush_call (stored store.old) journal.old used.at page) result.answer (stored store.new) journal.new result.place.at }
+    ensures kept { FlushKept store.old store.new }
+{
+    let c = flush(
+        &mut store.written.disk,
+        &mut store.written.dated,
+        &mut store.written.pending,
+        &mut store.written.past,
+        &store.snapshots,
+        &mut store.copies,
+        &mut store.copied,
+        store.heads,
+        journal,
+        used,
+        page,
+    );
+    store.heads = c.heads;
+    ChangedAnew {
+        answer: c.answer,
+        place: c.place,
     }
 }

@@ -1,13 +1,14 @@
 // Gossip, with its journal.
 ghost use Rattle.std.specs.Prelude.{◌≡◌};
 ghost use Rattle.model.specs.Calls.{gossip_call};
-ghost use Rattle.tables.specs.Contents.{contents};
+ghost use Rattle.tables.specs.Contents.{contents, stored};
 ghost use Rattle.changes.specs.Left.{Left};
+ghost use Rattle.changes.specs.Kept.{GossipKept};
 
-use crate::settling::Changed;
+use crate::settling::{Changed, ChangedAnew};
 use journal::place::Place;
 use model::Answer;
-use tables::{Copied, CopyTable, Disk, Heads, PastTable, PendingTable, Snapshots};
+use tables::{Copied, CopyTable, Disk, Heads, PastTable, PendingTable, Snapshots, Store};
 
 pub fn gossip(
     disk: &Disk,
@@ -63,5 +64,39 @@ pub fn gossip(
         heads,
         answer,
         place,
+    }
+}
+
+// Takes a gossip message: its stamps beyond the horizon become known snapshots, and the horizon moves.
+pub fn gossip_anew(
+    store: &mut Store,
+    journal: &mut [u8],
+    used: Place,
+    prev: u64,
+    curr: u64,
+    stamps: &[u64],
+) -> ChangedAnew
+    ensures left { Left (gossip_call (stored store.old) journal.old used.at prev curr stamps.now) result.answer (stored store.new) journal.new result.place.at }
+    ensures kept { GossipKept store.old store.new }
+{
+    let c = gossip(
+        &store.written.disk,
+        &store.written.dated,
+        &store.written.pending,
+        &mut store.written.past,
+        &mut store.snapshots,
+        &store.copies,
+        &store.copied,
+        store.heads,
+        journal,
+        used,
+        prev,
+        curr,
+        stamps,
+    );
+    store.heads = c.heads;
+    ChangedAnew {
+        answer: c.answer,
+        place: c.place,
     }
 }

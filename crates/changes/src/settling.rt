@@ -16,6 +16,13 @@ pub struct Changed {
     pub place: Place,
 }
 
+// What a change hands back: the answer, and the place for the next call.
+#[derive(Clone, Copy)]
+pub struct ChangedAnew {
+    pub answer: Answer,
+    pub place: Place,
+}
+
 // The journal is no longer than it may be, and the used length lies within it.
 pub fn journal_shaped(journal: &[u8], used: Place) -> bool
     ensures { result ≡ journal_shaped journal.now used.at }

@@ -3,8 +3,17 @@ use Rattle.std.specs.Prelude.{ℕ, ◌≡◌}
 use Rattle.model.specs.declared.Answer.{Answer}
 use Rattle.model.specs.Store.{Store}
 use Rattle.model.specs.Restart.{Restarted}
+use Rattle.tables.specs.declared.Store as lent
 
 pub record Rebuilt (x : Restarted) (answer : Answer) (store : Store) (place : ℕ) : Type 0 where
   pub answered : answer ≡ x.answer
   pub contains : store ≡ x.store
   pub place_is : place ≡ x.place
+
+-- the tables that a fresh start leaves word for word
+pub record FreshKept (s s' : lent.Store) : Type 0 where
+  pub pending_stays : s'.written.pending ≡ s.written.pending
+  pub past_stays : s'.written.past ≡ s.written.past
+  pub snapshots_stay : s'.snapshots ≡ s.snapshots
+  pub copies_stay : s'.copies ≡ s.copies
+  pub copied_stays : s'.copied ≡ s.copied

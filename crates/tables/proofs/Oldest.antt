@@ -1,4 +1,5 @@
 -- The oldest serving copy among those from a row on, whatever words they hold, after one copy more.
+use Rattle.std.specs.Prelude.{Some, None}
 use Prim.Native.Nat.{ℕ, ◌-◌, ◌<◌, ◌≤◌}
 use mathlib.Core.Path.{◌≡◌, refl, ◌∙◌, ap, sym}
 use mathlib.Core.Bool.{false}
@@ -10,7 +11,6 @@ use borrow.Author.Tests.{eq-eqb, ne_eqb, ltb-true, ltb-false, le-leb, lt-leb}
 use Rattle.model.specs.Lists.{both, pick}
 use Rattle.model.specs.Store.{Served, unserved, by, older, oldest}
 use Rattle.tables.specs.declared.CopyHead.{CopyHead}
-use Rattle.tables.specs.declared.Found.TheVariants.{At, Nothing}
 use Rattle.tables.specs.Rows.{copies_of, copy_head_at}
 use Rattle.tables.specs.Lookups.{Serving}
 use Rattle.tables.proofs.Cases.{by_test}
@@ -89,13 +89,13 @@ module _ {hs : List CopyHead} {n i : ℕ} (t : Turn hs n i) {x : CopyHead} (r : 
 
 -- ---- the answer, once all rows are passed
 module _ {hs : List CopyHead} {n p s best at i : ℕ} (v : Held hs n p s best at i) (z : i ≤ 0) where
-  pub serving_found : at < 128 → Serving p s n hs (At at)
+  pub serving_found : at < 128 → Serving p s n hs (Some at)
   serving_found e = record {
     copy = λ words. sym ((v.yes e).serves words) ∙ ap (oldest p s) (back_end i (take n (copies_of hs words)) z);
     inside = (v.yes e).within;
   }
 
-  pub serving_none : 128 ≤ at → Serving p s n hs Nothing
+  pub serving_none : 128 ≤ at → Serving p s n hs None
   serving_none e = record {
     copy = λ words. sym (v.no e words) ∙ ap (oldest p s) (back_end i (take n (copies_of hs words)) z);
     inside = tt;

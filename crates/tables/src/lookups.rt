@@ -7,7 +7,7 @@ ghost use Rattle.model.specs.Reads.{largest};
 ghost use Rattle.tables.specs.Rows.{past_of, pasts, copy_head_of, copy_heads, copies_of};
 ghost use Rattle.tables.specs.Lookups.{trimmed, Serving, last_before, wants_b, wanted_b};
 
-use crate::{CopyTable, Found, PastTable, Snapshots};
+use crate::{CopyTable, PastTable, Snapshots};
 use model::Past;
 
 // The largest of the first n snapshots at or before a time, or 0. They ascend, so it is the last of those at or before it.
@@ -133,7 +133,7 @@ pub fn trimmed_past(t: &PastTable, n: usize, page: u64) -> usize
 
 // The page's oldest copy with stamp >= s, the first row among equals: from the last row to the first, so that a row as old as
 // the best one takes its place. 128 says that there is none.
-pub fn serving(t: &CopyTable, n: usize, page: u64, s: u64) -> Found
+pub fn serving(t: &CopyTable, n: usize, page: u64, s: u64) -> Option<usize>
     requires { (n ≤ 128) × (length (copy_heads t.now) ≡ 128) }
     ensures { Serving page s n (copy_heads t.now) result }
 {
@@ -153,9 +153,9 @@ pub fn serving(t: &CopyTable, n: usize, page: u64, s: u64) -> Found
         }
     }
     if at < 128 {
-        return Found::At(at);
+        return Some(at);
     }
-    Found::Nothing
+    None
 }
 
 // Some stamp of the row's span is beyond the horizon.
