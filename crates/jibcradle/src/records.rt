@@ -6,6 +6,7 @@ use files::file::Whole;
 use files::{file, fit, names, paths, trouble};
 use model::Answer;
 use std::fs::File;
+use terminal::say::line;
 
 // No journal has so many records.
 const MOST: u64 = 65536;
@@ -13,27 +14,24 @@ const MOST: u64 = 65536;
 // The records from the first one on up to a place. False where standard output takes no more.
 fn are_said(rt: &HostRuntime, journal: &[u8], end: usize) -> bool {
     let mut at: usize = 1;
-    let mut left = MOST;
-    while 0 < left {
-        left -= 1;
+    for _ in 0..MOST {
         if end <= at {
             return true;
         }
-        let next = listing::behind(journal, at);
-        if next <= at {
+        let Some(listed) = listing::record_at(journal, at) else {
             return true;
-        }
-        if !say::record(rt, journal, at) {
+        };
+        if !line(rt, &listed.line) {
             return false;
         }
-        at = next;
+        at = listed.behind;
     }
     true
 }
 
 // Where and why the walk ends: at the end, at a record that isn't all there, or at one that is refused.
 fn is_ended(rt: &HostRuntime, answer: Answer, place: usize, length: usize) -> bool {
-    if answer.code() != 0 {
+    if !answer.is_done() {
         return say::refusal(rt, answer);
     }
     if place < length {
