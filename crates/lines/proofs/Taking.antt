@@ -1,47 +1,37 @@
--- What is taken from the front of a line's words: the next word, one number, two, a hex word.
-use Prim.Native.Nat.{ℕ, ◌+◌, ◌-◌, ◌<◌, ◌≤◌}
+-- What is taken from the front of a line's words: one number, two, a hex word.
+use Prim.Native.Nat.{ℕ, ◌+◌}
 use mathlib.Core.Path.{◌≡◌, ap, ◌∙◌}
 use mathlib.Core.List.{List}
-use native.Mathlib.Omega.{arith}
-use lib.ListN.{length, take, drop}
-use Rattle.lines.specs.Promises.{Next, Takes, TakesTwo, TakesHex}
-use Rattle.lines.specs.Numbers.{number_at, paired}
+use lib.ListN.{length}
+use Rattle.std.specs.Prelude.{Result, Ok, Err}
+use Rattle.lines.specs.Words.{words_from}
+use Rattle.lines.specs.Promises.{bytes_of, Stands, Took}
+use Rattle.lines.specs.Numbers.{number_at}
 use Rattle.lines.specs.Hex.{hex_at}
-use Rattle.lines.specs.Behind.{tail}
-use Rattle.lines.specs.declared.Fault.TheVariants.{Missing}
+use Rattle.lines.specs.Behind.{tail, first_number, first_two, first_hex}
+use Rattle.lines.specs.declared.Mistake.{Mistake}
 use Rattle.lines.specs.declared.words.Span.{Span}
-use Rattle.lines.specs.declared.numbers.Number.{Number}
-use Rattle.lines.specs.declared.numbers.Number.TheVariants as number
-use Rattle.lines.specs.declared.numbers.Item.{Item}
-use Rattle.lines.specs.declared.numbers.Hexed.{Hexed}
-use Rattle.lines.specs.declared.numbers.Hexed.TheVariants as hexed
 use Rattle.lines.specs.declared.takes.Taken.{Taken}
 
--- the bytes of a span
-abbrev pub bytes_of : List ℕ → Span → List ℕ
-bytes_of text s = take (s.to - s.from) (drop s.from text)
+module _ {text : List ℕ} {at : ℕ} {s : Span} (n : Stands text at s) (end : ℕ) where
+  pub number_took : {x : ℕ} → number_at (s.from + 1) (bytes_of text s) ≡ Ok x
+      → Took text (first_number end (words_from text at)) (tail (words_from text at)) (record { item = x; next = s.to })
+  number_took e = record { found = rw n.words e; behind = rw n.words; within = n.within }
 
-module _ (text : List ℕ) (at : ℕ) (s : Span) (n : Next text at s) where
-  pub word_there : (s.from ≡ s.to → ⊥) → s.from < s.to
-  word_there h = let l = n.straight in omega arith
+  pub number_wrong : {m : Mistake} → number_at (s.from + 1) (bytes_of text s) ≡ Err m → first_number end (words_from text at) ≡ Err m
+  number_wrong e = rw n.words e
 
-  pub take_none : at ≤ length text → s.from ≡ s.to → Takes text at (record { number = number.Wrong Missing (length text + 1); next = at })
-  take_none l h = let e = n.none h in record { found = rw e; rest = rw e; within = l }
+  pub hex_took : {x : Span} → hex_at (s.from + 1) (bytes_of text s) ≡ Ok x
+      → Took text (first_hex end (words_from text at)) (tail (words_from text at)) (record { item = x; next = s.to })
+  hex_took e = record { found = rw n.words e; behind = rw n.words; within = n.within }
 
-  pub take_some : (x : Number) → (s.from ≡ s.to → ⊥) → x ≡ number_at (s.from + 1) (bytes_of text s) → Takes text at (record { number = x; next = s.to })
-  take_some x h q = let e = n.some (word_there h) in record { found = rw e q; rest = rw e; within = n.within }
+  pub hex_wrong : {m : Mistake} → hex_at (s.from + 1) (bytes_of text s) ≡ Err m → first_hex end (words_from text at) ≡ Err m
+  hex_wrong e = rw n.words e
 
-  pub hex_none : at ≤ length text → s.from ≡ s.to → TakesHex text at (record { hex = hexed.Wrong Missing (length text + 1); next = at })
-  hex_none l h = let e = n.none h in record { found = rw e; rest = rw e; within = l }
+module _ (text : List ℕ) (at end : ℕ) {a : Taken ℕ} (p : Took text (first_number end (words_from text at)) (tail (words_from text at)) a) where
+  pub two_took : {b : Taken ℕ} → Took text (first_number end (words_from text a.next)) (tail (words_from text a.next)) b
+      → Took text (first_two end (words_from text at)) (tail (tail (words_from text at))) (record { item = (a.item, b.item); next = b.next })
+  two_took q = record { found = rw (p.found, ← p.behind, q.found); behind = q.behind ∙ ap tail p.behind; within = q.within }
 
-  pub hex_some : (x : Hexed) → (s.from ≡ s.to → ⊥) → x ≡ hex_at (s.from + 1) (bytes_of text s) → TakesHex text at (record { hex = x; next = s.to })
-  hex_some x h q = let e = n.some (word_there h) in record { found = rw e q; rest = rw e; within = n.within }
-
-pub take_both : (text : List ℕ) (at : ℕ) (a b : Taken) (i : Item) → Takes text at a → Takes text a.next b → i ≡ paired a.number b.number
-    → TakesTwo text at (record { item = i; next = b.next })
-take_both text at a b i p q e =
-    record {
-      found = e ∙ rw (p.found, q.found, p.rest);
-      rest = q.rest ∙ ap tail p.rest;
-      within = q.within;
-    }
+  pub two_wrong : {m : Mistake} → first_number end (words_from text a.next) ≡ Err m → first_two end (words_from text at) ≡ Err m
+  two_wrong e = rw (p.found, ← p.behind, e)

@@ -1,97 +1,81 @@
 // What is taken from the front of a line's words: numbers, a hex word, and that no word is left.
-ghost use Rattle.std.specs.Prelude.{◌≡◌, ◌≤◌, length};
+ghost use Rattle.std.specs.Prelude.{◌≡◌, ◌≤◌, ◌+◌, length};
 ghost use Rattle.lines.specs.Words.{words_from};
-ghost use Rattle.lines.specs.Behind.{rest_of};
-ghost use Rattle.lines.specs.Promises.{Takes, TakesTwo, TakesHex};
+ghost use Rattle.lines.specs.Behind.{tail, first_number, first_two, first_hex, closing};
+ghost use Rattle.lines.specs.Promises.{Takes};
 
-use crate::numbers::{Hexed, Item, Number};
-use crate::{Fault, numbers, words};
+use crate::words::Span;
+use crate::{Fault, Mistake, numbers, words};
 
-// The number, and where the rest of the line begins.
+// What was taken, and where the rest of the line begins.
 #[derive(Clone, Copy)]
-pub struct Taken {
-    pub number: Number,
+pub struct Taken<T> {
+    pub item: T,
     pub next: usize,
 }
 
-// The same of two numbers.
-#[derive(Clone, Copy)]
-pub struct TakenPair {
-    pub item: Item,
-    pub next: usize,
-}
-
-// The same of a hex word.
-#[derive(Clone, Copy)]
-pub struct TakenHex {
-    pub hex: Hexed,
-    pub next: usize,
-}
-
-// No word is left, or one that begins in this column.
-#[derive(Clone, Copy)]
-pub enum Rest {
-    Nothing,
-    Word(usize),
-}
-
-pub fn take_number(text: &[u8], at: usize) -> Taken
-    requires { at ≤ length text.now }
-    ensures { Takes text.now at result }
+// A word that isn't there is missed behind the line.
+fn missing(text: &[u8]) -> Mistake
+    ensures { result ≡ record { fault = Fault.Missing; column = length text.now + 1 } }
 {
-    let span = words::next_word(text, at);
-    let from = span.from;
-    let to = span.to;
-    if from == to {
-        let number = Number::Wrong(Fault::Missing, text.len() + 1);
-        return Taken { number, next: at };
+    Mistake {
+        fault: Fault::Missing,
+        column: text.len() + 1,
     }
-    let word = &text[from..to];
-    let number = numbers::number_at(word, from + 1);
-    Taken { number, next: to }
 }
 
-pub fn take_two(text: &[u8], at: usize) -> TakenPair
+pub fn take_number(text: &[u8], at: usize) -> Result<Taken<u64>, Mistake>
     requires { at ≤ length text.now }
-    ensures { TakesTwo text.now at result }
+    ensures { Takes text.now (first_number (length text.now + 1) (words_from text.now at)) (tail (words_from text.now at)) result }
 {
-    let first = take_number(text, at);
-    let next = first.next;
-    let second = take_number(text, next);
-    let a = first.number;
-    let b = second.number;
-    let item = numbers::pair_of(a, b);
-    TakenPair {
+    let Some(span) = words::next_word(text, at) else {
+        return Err(missing(text));
+    };
+    let word = &text[span.from..span.to];
+    let item = numbers::number_at(word, span.from + 1)?;
+    Ok(Taken {
         item,
+        next: span.to,
+    })
+}
+
+pub fn take_two(text: &[u8], at: usize) -> Result<Taken<(u64, u64)>, Mistake>
+    requires { at ≤ length text.now }
+    ensures { Takes text.now (first_two (length text.now + 1) (words_from text.now at)) (tail (tail (words_from text.now at))) result }
+{
+    let first = take_number(text, at)?;
+    let second = take_number(text, first.next)?;
+    Ok(Taken {
+        item: (first.item, second.item),
         next: second.next,
-    }
+    })
 }
 
-pub fn take_hex(text: &[u8], at: usize) -> TakenHex
+pub fn take_hex(text: &[u8], at: usize) -> Result<Taken<Span>, Mistake>
     requires { at ≤ length text.now }
-    ensures { TakesHex text.now at result }
+    ensures { Takes text.now (first_hex (length text.now + 1) (words_from text.now at)) (tail (words_from text.now at)) result }
 {
-    let span = words::next_word(text, at);
-    let from = span.from;
-    let to = span.to;
-    if from == to {
-        let hex = Hexed::Wrong(Fault::Missing, text.len() + 1);
-        return TakenHex { hex, next: at };
-    }
-    let word = &text[from..to];
-    let hex = numbers::hex_at(word, from + 1);
-    TakenHex { hex, next: to }
+    let Some(span) = words::next_word(text, at) else {
+        return Err(missing(text));
+    };
+    let word = &text[span.from..span.to];
+    let item = numbers::hex_at(word, span.from + 1)?;
+    Ok(Taken {
+        item,
+        next: span.to,
+    })
 }
 
-pub fn rest_of(text: &[u8], at: usize) -> Rest
+// What is read, where no word is left behind it.
+pub fn close<T: Copy>(text: &[u8], at: usize, read: T) -> Result<T, Mistake>
     requires { at ≤ length text.now }
-    ensures { result ≡ rest_of (words_from text.now at) }
+    ensures { result ≡ closing read (words_from text.now at) }
 {
-    let span = words::next_word(text, at);
-    let from = span.from;
-    let to = span.to;
-    if from == to {
-        return Rest::Nothing;
+    match words::next_word(text, at) {
+        None => Ok(read),
+        Some(span) => Err(Mistake {
+            fault: Fault::Extra,
+            column: span.from + 1,
+        }),
     }
-    Rest::Word(from + 1)
 }

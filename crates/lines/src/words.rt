@@ -1,6 +1,6 @@
 // The words of a line, found from left to right.
 ghost use Rattle.std.specs.Prelude.{◌≡◌, ◌≤◌, length};
-ghost use Rattle.lines.specs.Words.{blank, digit, hex_digit, leading, of_class, between as Words·between};
+ghost use Rattle.lines.specs.Words.{blank, leading, of_class};
 ghost use Rattle.lines.specs.Promises.{Next};
 
 // What a byte can be: a blank, no blank, a digit, a hex digit, no `#`, no `=`.
@@ -24,49 +24,21 @@ pub struct Span {
 fn is_blank(b: u8) -> bool
     ensures { result ≡ blank b }
 {
-    if b == b' ' {
-        return true;
-    }
-    if b == b'\t' {
-        return true;
-    }
-    b == b'\r'
+    matches!(b, b' ' | b'\t' | b'\r')
 }
 
-pub fn between(low: u8, high: u8, b: u8) -> bool
-    ensures { result ≡ Words·between low high b }
-{
-    if low <= b { b <= high } else { false }
-}
-
-pub fn is_digit(b: u8) -> bool
-    ensures { result ≡ digit b }
-{
-    between(b'0', b'9', b)
-}
-
-fn is_hex(b: u8) -> bool
-    ensures { result ≡ hex_digit b }
-{
-    if is_digit(b) {
-        return true;
-    }
-    if between(b'a', b'f', b) {
-        return true;
-    }
-    between(b'A', b'F', b)
-}
-
-fn is_of(class: Class, b: u8) -> bool
-    ensures { result ≡ of_class class b }
-{
-    match class {
-        Class::Gap => is_blank(b),
-        Class::Ink => !is_blank(b),
-        Class::Figure => is_digit(b),
-        Class::Hex => is_hex(b),
-        Class::Text => b != b'#',
-        Class::Left => b != b'=',
+impl Class {
+    fn has(self, b: u8) -> bool
+        ensures { result ≡ of_class self b }
+    {
+        match self {
+            Class::Gap => is_blank(b),
+            Class::Ink => !is_blank(b),
+            Class::Figure => b.is_ascii_digit(),
+            Class::Hex => b.is_ascii_hexdigit(),
+            Class::Text => b != b'#',
+            Class::Left => b != b'=',
+        }
     }
 }
 
@@ -74,18 +46,11 @@ fn is_of(class: Class, b: u8) -> bool
 pub fn run_of(bytes: &[u8], class: Class) -> usize
     ensures { result ≡ leading (of_class class) bytes.now }
 {
-    let mut i: usize = 0;
-    while i < bytes.len() {
-        if !is_of(class, bytes[i]) {
-            return i;
-        }
-        i += 1;
-    }
-    i
+    bytes.iter().take_while(|b| class.has(**b)).count()
 }
 
 // The next word from `at` on.
-pub fn next_word(text: &[u8], at: usize) -> Span
+pub fn next_word(text: &[u8], at: usize) -> Option<Span>
     requires { at ≤ length text.now }
     ensures { Next text.now at result }
 {
@@ -93,5 +58,8 @@ pub fn next_word(text: &[u8], at: usize) -> Span
     let from = at + run_of(rest, Class::Gap);
     let word = &text[from..];
     let to = from + run_of(word, Class::Ink);
-    Span { from, to }
+    if from == to {
+        return None;
+    }
+    Some(Span { from, to })
 }

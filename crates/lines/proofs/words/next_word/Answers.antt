@@ -6,7 +6,7 @@ use lib.ListN.{length, drop}
 use Rattle.lines.specs.Words.{leading, of_class}
 use Rattle.lines.specs.declared.words.Class.TheVariants.{Gap, Ink}
 use Rattle.lines.proofs.Runs.{run_from}
-use Rattle.lines.proofs.Spans.{rest_of, next_found}
+use Rattle.lines.proofs.Spans.{rest_of, Searched, stands, next_found}
 use Rattle.lines.proofs.words.next_word.Goals as goal
 use Rattle.lines.proofs.words.next_word.Goals.{After-run_of, After-run_of-2}
 
@@ -40,7 +40,14 @@ overflow_add-to c =
     let l = begins (goal.at.overflow_add-to c).After-run_of in
     omega (arith, run_from (of_class Ink) a.text.now (a.at + c.run_of.result) c.run_of-2.result l (ink (goal.at.overflow_add-to c).After-run_of-2))
 
+pub returns-then-from-to : goal.returns-then-from-to
+returns-then-from-to c =
+    let a = c.args in
+    let g = goal.at.returns-then-from-to c in
+    (next_found a.text.now a.at c.run_of.result c.run_of-2.result c.requires (gap g.After-run_of) (ink g.After-run_of-2)).none c.if-from-to.true
+
 pub returns : goal.returns
 returns c =
     let a = c.args in
-    next_found a.text.now a.at c.run_of.result c.run_of-2.result c.requires (gap (goal.at.returns c).After-run_of) (ink (goal.at.returns c).After-run_of-2)
+    let g = goal.at.returns c in
+    stands (next_found a.text.now a.at c.run_of.result c.run_of-2.result c.requires (gap g.After-run_of) (ink g.After-run_of-2)) c.if-from-to.false
