@@ -46,7 +46,12 @@ impl Class {
 pub fn run_of(bytes: &[u8], class: Class) -> usize
     ensures { result ≡ leading (of_class class) bytes.now }
 {
-    bytes.iter().take_while(|b| class.has(**b)).count()
+    for (i, b) in bytes.iter().enumerate() {
+        if !class.has(*b) {
+            return i;
+        }
+    }
+    bytes.len()
 }
 
 // The next word from `at` on.
