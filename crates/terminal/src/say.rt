@@ -3,7 +3,7 @@
 ghost use Rattle.io.specs.Counts.{IsPrefixLen};
 
 use files::trouble;
-use lines::Fault;
+use lines::Mistake;
 use model::Answer;
 use std::os::fd::{AsFd, BorrowedFd};
 
@@ -97,23 +97,15 @@ pub fn bytes(rt: &HostRuntime, a: Answer, bytes: &[u8]) -> bool {
     first(rt, &line, n)
 }
 
-fn number_of(fault: Fault) -> u64 {
-    match fault {
-        Fault::Unknown => 0,
-        Fault::Missing => 1,
-        Fault::Digit => 2,
-        Fault::Large => 3,
-        Fault::Equals => 4,
-        Fault::Extra => 5,
-        Fault::Hex => 6,
-        Fault::Long => 7,
-        Fault::Odd => 8,
-    }
-}
-
-pub fn wrong(rt: &HostRuntime, fault: Fault, number: u64, column: usize) -> bool {
+// The answer to the line of this number, which is no call.
+pub fn wrong(rt: &HostRuntime, mistake: Mistake, number: u64) -> bool {
     let mut line = [0u8; answers::ROOM];
-    let n = answers::fault_line(number_of(fault), number, column as u64, &mut line);
+    let n = answers::fault_line(
+        mistake.fault as u64,
+        number,
+        mistake.column as u64,
+        &mut line,
+    );
     first(rt, &line, n)
 }
 
