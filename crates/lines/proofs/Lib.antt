@@ -3,8 +3,6 @@ pub mod Runs
 pub mod Spans
 pub mod Digits
 pub mod Hexes
-pub mod Taking
-pub mod Behind
 pub mod Storing
 pub mod Calling
 pub mod Ordering

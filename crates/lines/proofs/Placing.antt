@@ -17,7 +17,6 @@ use Rattle.lines.specs.Promises.{bytes_of}
 use Rattle.lines.specs.declared.Mistake.{Mistake}
 use Rattle.lines.specs.declared.Topic.{Topic}
 use Rattle.std.specs.Prelude.{Option, Some, None, Result, Ok, Err}
-use Rattle.lines.specs.declared.Topic.TheVariants as topic
 use Rattle.lines.specs.declared.Call.{Call}
 use Rattle.lines.specs.declared.Call.TheVariants as call
 use Rattle.lines.specs.declared.words.Class.TheVariants.{Gap, Ink, Text}

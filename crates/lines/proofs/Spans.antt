@@ -15,9 +15,9 @@ use Rattle.lines.specs.Promises.{bytes_of, Stands}
 use Rattle.lines.specs.declared.words.Class.TheVariants.{Gap, Ink}
 use Rattle.lines.specs.declared.words.Span.{Span}
 use Rattle.lines.proofs.Cases.{by_test}
-use Rattle.lines.proofs.Runs.{run_within}
+use Rattle.lines.proofs.Runs.{run_within, run_from}
 
-pub rest_of : (s : List ℕ) (at : ℕ) → take (length s - at) (drop at s) ≡ drop at s
+rest_of : (s : List ℕ) (at : ℕ) → take (length s - at) (drop at s) ≡ drop at s
 rest_of s at = take_all (length s - at) (drop at s) (simp length-drop (omega arith))
 
 -- blanks before the words
@@ -128,3 +128,13 @@ next_found text at gap ink h g i =
           let q = rw (← i, drop-drop ink (at + gap) text, suc-add) at (word_run (suc (at + gap)) (drop (at + gap) text) p) in
           rw (w, add-one) (skipped ∙ q);
     }
+
+-- the same of the rest of a text as code cuts it
+module _ (text : List ℕ) (at gap : ℕ) (h : at ≤ length text) (g : gap ≡ leading (of_class Gap) (take (length text - at) (drop at text))) where
+  pub gap_within : at + gap ≤ length text
+  gap_within = run_from (of_class Gap) text at gap h (g ∙ ap (leading (of_class Gap)) (rest_of text at))
+
+  pub run_found : (ink : ℕ) → ink ≡ leading (of_class Ink) (take (length text - (at + gap)) (drop (at + gap) text))
+      → Searched text at (record { from = at + gap; to = at + gap + ink })
+  run_found ink i =
+      next_found text at gap ink h (g ∙ ap (leading (of_class Gap)) (rest_of text at)) (i ∙ ap (leading (of_class Ink)) (rest_of text (at + gap)))

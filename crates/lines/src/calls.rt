@@ -1,12 +1,12 @@
 // A call by its name, and what its words say.
-ghost use Rattle.std.specs.Prelude.{◌≡◌, ◌≤◌, ◌+◌, length};
-ghost use Rattle.lines.specs.Words.{words_from};
-ghost use Rattle.lines.specs.Behind.{closing};
+ghost use Rattle.std.specs.Prelude.{◌≡◌};
+ghost use Rattle.lines.specs.Promises.{ahead, end_of};
 ghost use Rattle.lines.specs.Lines.{bare_call, single_call, double_call, with_one, with_two, with_hex, helped, with_writes, with_stamps, called, Reading};
 
 use crate::names::{Bare, Double, Name, Single};
 use crate::numbers::Row;
-use crate::{Call, Fault, Listed, Mistake, Topic, lists, names, takes, words};
+use crate::words::Reader;
+use crate::{Call, Fault, Listed, Mistake, Topic, lists, names};
 
 impl Bare {
     fn call(self) -> Call
@@ -45,80 +45,68 @@ impl Double {
     }
 }
 
-fn read_single(text: &[u8], at: usize, which: Single) -> Result<Call, Mistake>
-    requires { at ≤ length text.now }
-    ensures { result ≡ with_one which (length text.now + 1) (words_from text.now at) }
+fn read_single(words: &mut Reader<'_>, which: Single) -> Result<Call, Mistake>
+    ensures { result ≡ with_one which (end_of words.old) (ahead words.old) }
 {
-    let taken = takes::take_number(text, at)?;
-    takes::close(text, taken.next, which.call(taken.item))
+    let n = words.number()?;
+    words.close(which.call(n))
 }
 
-fn read_double(text: &[u8], at: usize, which: Double) -> Result<Call, Mistake>
-    requires { at ≤ length text.now }
-    ensures { result ≡ with_two which (length text.now + 1) (words_from text.now at) }
+fn read_double(words: &mut Reader<'_>, which: Double) -> Result<Call, Mistake>
+    ensures { result ≡ with_two which (end_of words.old) (ahead words.old) }
 {
-    let taken = takes::take_two(text, at)?;
-    let (a, b) = taken.item;
-    takes::close(text, taken.next, which.call(a, b))
+    let a = words.number()?;
+    let b = words.number()?;
+    words.close(which.call(a, b))
 }
 
-fn read_hear(text: &[u8], at: usize) -> Result<Call, Mistake>
-    requires { at ≤ length text.now }
-    ensures { result ≡ with_hex (length text.now + 1) (words_from text.now at) }
+fn read_hear(words: &mut Reader<'_>) -> Result<Call, Mistake>
+    ensures { result ≡ with_hex (end_of words.old) (ahead words.old) }
 {
-    let taken = takes::take_hex(text, at)?;
-    let span = taken.item;
-    takes::close(text, taken.next, Call::Hear(span.from, span.to))
+    let span = words.hex()?;
+    words.close(Call::Hear(span.from, span.to))
 }
 
-fn read_help(text: &[u8], at: usize) -> Result<Call, Mistake>
-    requires { at ≤ length text.now }
-    ensures { result ≡ helped (words_from text.now at) }
+fn read_help(words: &mut Reader<'_>) -> Result<Call, Mistake>
+    ensures { result ≡ helped (ahead words.old) }
 {
-    let Some(span) = words::next_word(text, at) else {
+    let Some(span) = words.next_word() else {
         return Ok(Call::Help(Topic::Calls));
     };
-    let word = &text[span.from..span.to];
-    match names::topic_of(word) {
-        Some(topic) => takes::close(text, span.to, Call::Help(topic)),
-        None => Err(Mistake {
-            fault: Fault::Unknown,
-            column: span.from + 1,
-        }),
+    match names::topic_of(&words.text[span.from..span.to]) {
+        Some(topic) => words.close(Call::Help(topic)),
+        None => Err(Fault::Unknown.at(span.from + 1)),
     }
 }
 
-fn read_commit(text: &[u8], at: usize, listed: &mut Listed) -> Result<Call, Mistake>
-    requires { at ≤ length text.now }
-    ensures { Reading (with_writes (length text.now + 1) (words_from text.now at)) result listed.new.firsts listed.new.seconds }
+fn read_commit(words: &mut Reader<'_>, listed: &mut Listed) -> Result<Call, Mistake>
+    ensures { Reading (with_writes (end_of words.old) (ahead words.old)) result listed.new.firsts listed.new.seconds }
 {
-    let taken = takes::take_number(text, at)?;
-    let n = lists::read_list(text, taken.next, Row::Write, listed)?;
-    Ok(Call::Commit(taken.item, n))
+    let stamp = words.number()?;
+    let n = lists::read_list(words, Row::Write, listed)?;
+    Ok(Call::Commit(stamp, n))
 }
 
-fn read_gossip(text: &[u8], at: usize, listed: &mut Listed) -> Result<Call, Mistake>
-    requires { at ≤ length text.now }
-    ensures { Reading (with_stamps (length text.now + 1) (words_from text.now at)) result listed.new.firsts listed.new.seconds }
+fn read_gossip(words: &mut Reader<'_>, listed: &mut Listed) -> Result<Call, Mistake>
+    ensures { Reading (with_stamps (end_of words.old) (ahead words.old)) result listed.new.firsts listed.new.seconds }
 {
-    let taken = takes::take_two(text, at)?;
-    let (prev, curr) = taken.item;
-    let n = lists::read_list(text, taken.next, Row::Stamp, listed)?;
+    let prev = words.number()?;
+    let curr = words.number()?;
+    let n = lists::read_list(words, Row::Stamp, listed)?;
     Ok(Call::Gossip(prev, curr, n))
 }
 
-// The call of a name, and of the words from `at` on.
-pub fn read_call(text: &[u8], at: usize, name: Name, listed: &mut Listed) -> Result<Call, Mistake>
-    requires { at ≤ length text.now }
-    ensures { Reading (called name (length text.now + 1) (words_from text.now at)) result listed.new.firsts listed.new.seconds }
+// The call of a name, and of the words behind it.
+pub fn read_call(words: &mut Reader<'_>, name: Name, listed: &mut Listed) -> Result<Call, Mistake>
+    ensures { Reading (called name (end_of words.old) (ahead words.old)) result listed.new.firsts listed.new.seconds }
 {
     match name {
-        Name::Commit => read_commit(text, at, listed),
-        Name::Gossip => read_gossip(text, at, listed),
-        Name::Bare(which) => takes::close(text, at, which.call()),
-        Name::Single(which) => read_single(text, at, which),
-        Name::Double(which) => read_double(text, at, which),
-        Name::Hear => read_hear(text, at),
-        Name::Help => read_help(text, at),
+        Name::Commit => read_commit(words, listed),
+        Name::Gossip => read_gossip(words, listed),
+        Name::Bare(which) => words.close(which.call()),
+        Name::Single(which) => read_single(words, which),
+        Name::Double(which) => read_double(words, which),
+        Name::Hear => read_hear(words),
+        Name::Help => read_help(words),
     }
 }

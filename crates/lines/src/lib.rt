@@ -14,9 +14,9 @@ mod words;
 ghost use Rattle.std.specs.Prelude.{◌≡◌};
 ghost use Rattle.lines.specs.Lines.{of_text, Reading, ReadLine};
 
-use crate::words::Class;
+use crate::words::{Class, Reader};
 
-// What is wrong with a line that is no call: no such call, a word is missing, a byte that is no digit, a number of 2^64 or more,
+// What is wrong with a line that is no call, in the order of the answers' words for it: no such call, a word is missing, a byte that is no digit, a number of 2^64 or more,
 // a write without its `=`, a word too many, a byte that is no hex digit, more than 1024 hex digits, an odd number of them.
 #[derive(Clone, Copy, Debug, PartialEq, Eq)]
 pub enum Fault {
@@ -36,6 +36,17 @@ pub enum Fault {
 pub struct Mistake {
     pub fault: Fault,
     pub column: usize,
+}
+
+impl Fault {
+    fn at(self, column: usize) -> Mistake
+        ensures { result ≡ record { fault = self; column = column } }
+    {
+        Mistake {
+            fault: self,
+            column,
+        }
+    }
 }
 
 // What help is about: the calls, the codes of the answers, the figures of standing.
@@ -68,6 +79,7 @@ pub enum Call {
 }
 
 // The numbers of a line's list, at the front: objects and values of a commit, stamps of a gossip. The call tells how many they are.
+#[derive(Drop)]
 pub struct Listed {
     pub firsts: [u64; 17],
     pub seconds: [u64; 17],
@@ -77,16 +89,13 @@ pub struct Listed {
 fn read_text(text: &[u8], listed: &mut Listed) -> Result<Call, Mistake>
     ensures { Reading (of_text text.now) result listed.new.firsts listed.new.seconds }
 {
-    let Some(span) = words::next_word(text, 0) else {
+    let mut words = Reader::new(text);
+    let Some(span) = words.next_word() else {
         return Ok(Call::Blank);
     };
-    let word = &text[span.from..span.to];
-    match names::name_of(word) {
-        Some(name) => calls::read_call(text, span.to, name, listed),
-        None => Err(Mistake {
-            fault: Fault::Unknown,
-            column: span.from + 1,
-        }),
+    match names::name_of(&text[span.from..span.to]) {
+        Some(name) => calls::read_call(&mut words, name, listed),
+        None => Err(Fault::Unknown.at(span.from + 1)),
     }
 }
 

@@ -1,12 +1,12 @@
 // The list at the end of a commit or of a gossip: every word is read, the first 17 are kept.
-ghost use Rattle.std.specs.Prelude.{◌≡◌, ◌≤◌, ◌+◌, ltb, length, set};
+ghost use Rattle.std.specs.Prelude.{◌≡◌, ◌+◌, ltb, set};
 ghost use Rattle.model.specs.Lists.{pick};
-ghost use Rattle.lines.specs.Words.{words_from};
 ghost use Rattle.lines.specs.Lines.{items};
-ghost use Rattle.lines.specs.Promises.{Listing};
+ghost use Rattle.lines.specs.Promises.{ahead, Listing};
 
 use crate::numbers::Row;
-use crate::{Listed, Mistake, numbers, words};
+use crate::words::Reader;
+use crate::{Listed, Mistake, numbers};
 
 impl Listed {
     // Keeps two numbers behind the others where there is room: how many are kept then.
@@ -25,22 +25,14 @@ impl Listed {
 }
 
 // How many are kept.
-pub fn read_list(
-    text: &[u8],
-    start: usize,
-    row: Row,
-    listed: &mut Listed,
-) -> Result<usize, Mistake>
-    requires { start ≤ length text.now }
-    ensures { Listing (items row (words_from text.now start)) result listed.new.firsts listed.new.seconds }
+pub fn read_list(words: &mut Reader<'_>, row: Row, listed: &mut Listed) -> Result<usize, Mistake>
+    ensures { Listing (items row (ahead words.old)) result listed.new.firsts listed.new.seconds }
 {
-    let mut at = start;
     let mut count: usize = 0;
-    while let Some(span) = words::next_word(text, at) {
-        let word = &text[span.from..span.to];
+    while let Some(span) = words.next_word() {
+        let word = &words.text[span.from..span.to];
         let (a, b) = numbers::item_at(word, span.from + 1, row)?;
         count = listed.keep(count, a, b);
-        at = span.to;
     }
     Ok(count)
 }

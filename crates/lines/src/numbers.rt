@@ -30,10 +30,7 @@ fn digits_value(word: &[u8], column: usize) -> Result<u64, Mistake>
     for b in word {
         let x = digit_value(*b);
         if (u64::MAX - x) / 10 < n {
-            return Err(Mistake {
-                fault: Fault::Large,
-                column,
-            });
+            return Err(Fault::Large.at(column));
         }
         n = n * 10 + x;
     }
@@ -46,17 +43,11 @@ pub fn number_at(word: &[u8], column: usize) -> Result<u64, Mistake>
     ensures { result ≡ number_at column word.now }
 {
     if word.is_empty() {
-        return Err(Mistake {
-            fault: Fault::Missing,
-            column,
-        });
+        return Err(Fault::Missing.at(column));
     }
     let digits = words::run_of(word, Class::Figure);
     if digits < word.len() {
-        return Err(Mistake {
-            fault: Fault::Digit,
-            column: column + digits,
-        });
+        return Err(Fault::Digit.at(column + digits));
     }
     digits_value(word, column)
 }
@@ -71,10 +62,7 @@ fn value_at(word: &[u8], key: usize, column: usize) -> Result<u64, Mistake>
         let value = &word[from..];
         number_at(value, column + from)
     } else {
-        Err(Mistake {
-            fault: Fault::Equals,
-            column: column + word.len(),
-        })
+        Err(Fault::Equals.at(column + word.len()))
     }
 }
 
@@ -110,22 +98,13 @@ pub fn hex_at(word: &[u8], column: usize) -> Result<Span, Mistake>
 {
     let digits = words::run_of(word, Class::Hex);
     if digits < word.len() {
-        return Err(Mistake {
-            fault: Fault::Hex,
-            column: column + digits,
-        });
+        return Err(Fault::Hex.at(column + digits));
     }
     if MOST < word.len() {
-        return Err(Mistake {
-            fault: Fault::Long,
-            column,
-        });
+        return Err(Fault::Long.at(column));
     }
     if word.len() % 2 == 1 {
-        return Err(Mistake {
-            fault: Fault::Odd,
-            column,
-        });
+        return Err(Fault::Odd.at(column));
     }
     let from = column - 1;
     Ok(Span {

@@ -1,11 +1,11 @@
 // One line of the coordinator's command, read as an order. specs/Orders.antt says what each line means.
-ghost use Rattle.std.specs.Prelude.{◌≡◌, ◌≤◌, ◌+◌, length};
-ghost use Rattle.lines.specs.Words.{words_from};
+ghost use Rattle.std.specs.Prelude.{◌≡◌};
+ghost use Rattle.lines.specs.Promises.{ahead, end_of};
 ghost use Rattle.lines.specs.Orders.{lone_order, paired_order, with_pair, with_serve, titled, text_order, ReadOrder};
 
 use crate::titles::{Lone, Paired, Title};
-use crate::words::Class;
-use crate::{Fault, Mistake, takes, titles, words};
+use crate::words::{Class, Reader};
+use crate::{Fault, Mistake, titles, words};
 
 // An order with its numbers; Serve has where its hex word begins and ends in the line.
 #[derive(Clone, Copy)]
@@ -42,33 +42,29 @@ impl Paired {
     }
 }
 
-fn read_paired(text: &[u8], at: usize, which: Paired) -> Result<Order, Mistake>
-    requires { at ≤ length text.now }
-    ensures { result ≡ with_pair which (length text.now + 1) (words_from text.now at) }
+fn read_paired(words: &mut Reader<'_>, which: Paired) -> Result<Order, Mistake>
+    ensures { result ≡ with_pair which (end_of words.old) (ahead words.old) }
 {
-    let taken = takes::take_two(text, at)?;
-    let (a, b) = taken.item;
-    takes::close(text, taken.next, which.order(a, b))
+    let a = words.number()?;
+    let b = words.number()?;
+    words.close(which.order(a, b))
 }
 
-fn read_serve(text: &[u8], at: usize) -> Result<Order, Mistake>
-    requires { at ≤ length text.now }
-    ensures { result ≡ with_serve (length text.now + 1) (words_from text.now at) }
+fn read_serve(words: &mut Reader<'_>) -> Result<Order, Mistake>
+    ensures { result ≡ with_serve (end_of words.old) (ahead words.old) }
 {
-    let taken = takes::take_hex(text, at)?;
-    let span = taken.item;
-    takes::close(text, taken.next, Order::Serve(span.from, span.to))
+    let span = words.hex()?;
+    words.close(Order::Serve(span.from, span.to))
 }
 
-// The order of a name, and of the words from `at` on.
-fn read_title(text: &[u8], at: usize, title: Title) -> Result<Order, Mistake>
-    requires { at ≤ length text.now }
-    ensures { result ≡ (titled title (length text.now + 1) (words_from text.now at)).order }
+// The order of a name, and of the words behind it.
+fn read_title(words: &mut Reader<'_>, title: Title) -> Result<Order, Mistake>
+    ensures { result ≡ (titled title (end_of words.old) (ahead words.old)).order }
 {
     match title {
-        Title::Lone(which) => takes::close(text, at, which.order()),
-        Title::Paired(which) => read_paired(text, at, which),
-        Title::Serve => read_serve(text, at),
+        Title::Lone(which) => words.close(which.order()),
+        Title::Paired(which) => read_paired(words, which),
+        Title::Serve => read_serve(words),
     }
 }
 
@@ -76,16 +72,13 @@ fn read_title(text: &[u8], at: usize, title: Title) -> Result<Order, Mistake>
 fn read_text(text: &[u8]) -> Result<Order, Mistake>
     ensures { result ≡ (text_order text.now).order }
 {
-    let Some(span) = words::next_word(text, 0) else {
+    let mut words = Reader::new(text);
+    let Some(span) = words.next_word() else {
         return Ok(Order::Blank);
     };
-    let word = &text[span.from..span.to];
-    match titles::title_of(word) {
-        Some(title) => read_title(text, span.to, title),
-        None => Err(Mistake {
-            fault: Fault::Unknown,
-            column: span.from + 1,
-        }),
+    match titles::title_of(&text[span.from..span.to]) {
+        Some(title) => read_title(&mut words, title),
+        None => Err(Fault::Unknown.at(span.from + 1)),
     }
 }
 

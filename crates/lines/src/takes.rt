@@ -1,81 +1,71 @@
-// What is taken from the front of a line's words: numbers, a hex word, and that no word is left.
-ghost use Rattle.std.specs.Prelude.{◌≡◌, ◌≤◌, ◌+◌, length};
-ghost use Rattle.lines.specs.Words.{words_from};
-ghost use Rattle.lines.specs.Behind.{tail, first_number, first_two, first_hex, closing};
-ghost use Rattle.lines.specs.Promises.{Takes};
+// What a reader takes from the front of a line's words: the next word, as a number, or as a hex word, and that no word is left.
+ghost use Rattle.std.specs.Prelude.{◌≡◌};
+ghost use Rattle.lines.specs.Words.{words};
+ghost use Rattle.lines.specs.Behind.{first_number, first_hex, closing};
+ghost use Rattle.lines.specs.Promises.{ahead, end_of, Next, Passed};
+ghost use Rattle.lines.specs.declared.Fault.TheVariants.{Missing};
 
-use crate::words::Span;
+use crate::words::{Class, Reader, Span};
 use crate::{Fault, Mistake, numbers, words};
 
-// What was taken, and where the rest of the line begins.
-#[derive(Clone, Copy)]
-pub struct Taken<T> {
-    pub item: T,
-    pub next: usize,
-}
-
-// A word that isn't there is missed behind the line.
-fn missing(text: &[u8]) -> Mistake
-    ensures { result ≡ record { fault = Fault.Missing; column = length text.now + 1 } }
-{
-    Mistake {
-        fault: Fault::Missing,
-        column: text.len() + 1,
+impl<'a> Reader<'a> {
+    pub fn new(text: &'a [u8]) -> Reader<'a>
+        ensures { (result.text.now ≡ text.now) × (ahead result ≡ words 1 text.now) }
+    {
+        Reader { text, at: 0 }
     }
-}
 
-pub fn take_number(text: &[u8], at: usize) -> Result<Taken<u64>, Mistake>
-    requires { at ≤ length text.now }
-    ensures { Takes text.now (first_number (length text.now + 1) (words_from text.now at)) (tail (words_from text.now at)) result }
-{
-    let Some(span) = words::next_word(text, at) else {
-        return Err(missing(text));
-    };
-    let word = &text[span.from..span.to];
-    let item = numbers::number_at(word, span.from + 1)?;
-    Ok(Taken {
-        item,
-        next: span.to,
-    })
-}
+    // The next word.
+    pub fn next_word(&mut self) -> Option<Span>
+        ensures { Next self.old self.new result }
+    {
+        let rest = &self.text[self.at..];
+        let from = self.at + words::run_of(rest, Class::Gap);
+        let word = &self.text[from..];
+        let to = from + words::run_of(word, Class::Ink);
+        if from == to {
+            return None;
+        }
+        self.at = to;
+        Some(Span { from, to })
+    }
 
-pub fn take_two(text: &[u8], at: usize) -> Result<Taken<(u64, u64)>, Mistake>
-    requires { at ≤ length text.now }
-    ensures { Takes text.now (first_two (length text.now + 1) (words_from text.now at)) (tail (tail (words_from text.now at))) result }
-{
-    let first = take_number(text, at)?;
-    let second = take_number(text, first.next)?;
-    Ok(Taken {
-        item: (first.item, second.item),
-        next: second.next,
-    })
-}
+    // What is missed behind the line's last word.
+    fn missing(&self) -> Mistake
+        ensures { result ≡ record { fault = Missing; column = end_of self.now } }
+    {
+        Fault::Missing.at(self.text.len() + 1)
+    }
 
-pub fn take_hex(text: &[u8], at: usize) -> Result<Taken<Span>, Mistake>
-    requires { at ≤ length text.now }
-    ensures { Takes text.now (first_hex (length text.now + 1) (words_from text.now at)) (tail (words_from text.now at)) result }
-{
-    let Some(span) = words::next_word(text, at) else {
-        return Err(missing(text));
-    };
-    let word = &text[span.from..span.to];
-    let item = numbers::hex_at(word, span.from + 1)?;
-    Ok(Taken {
-        item,
-        next: span.to,
-    })
-}
+    // The next word, as a number.
+    pub fn number(&mut self) -> Result<u64, Mistake>
+        ensures value { result ≡ first_number (end_of self.old) (ahead self.old) }
+        ensures rest { Passed self.old self.new }
+    {
+        match self.next_word() {
+            None => Err(self.missing()),
+            Some(span) => numbers::number_at(&self.text[span.from..span.to], span.from + 1),
+        }
+    }
 
-// What is read, where no word is left behind it.
-pub fn close<T: Copy>(text: &[u8], at: usize, read: T) -> Result<T, Mistake>
-    requires { at ≤ length text.now }
-    ensures { result ≡ closing read (words_from text.now at) }
-{
-    match words::next_word(text, at) {
-        None => Ok(read),
-        Some(span) => Err(Mistake {
-            fault: Fault::Extra,
-            column: span.from + 1,
-        }),
+    // The next word, as a hex word.
+    pub fn hex(&mut self) -> Result<Span, Mistake>
+        ensures value { result ≡ first_hex (end_of self.old) (ahead self.old) }
+        ensures rest { Passed self.old self.new }
+    {
+        match self.next_word() {
+            None => Err(self.missing()),
+            Some(span) => numbers::hex_at(&self.text[span.from..span.to], span.from + 1),
+        }
+    }
+
+    // What was read, where no word is left behind it.
+    pub fn close<T: Copy>(&mut self, read: T) -> Result<T, Mistake>
+        ensures { result ≡ closing read (ahead self.old) }
+    {
+        match self.next_word() {
+            None => Ok(read),
+            Some(span) => Err(Fault::Extra.at(span.from + 1)),
+        }
     }
 }

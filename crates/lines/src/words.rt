@@ -1,7 +1,6 @@
 // The words of a line, found from left to right.
 ghost use Rattle.std.specs.Prelude.{◌≡◌, ◌≤◌, length};
 ghost use Rattle.lines.specs.Words.{blank, leading, of_class};
-ghost use Rattle.lines.specs.Promises.{Next};
 
 // What a byte can be: a blank, no blank, a digit, a hex digit, no `#`, no `=`.
 #[derive(Clone, Copy)]
@@ -54,17 +53,10 @@ pub fn run_of(bytes: &[u8], class: Class) -> usize
     bytes.len()
 }
 
-// The next word from `at` on.
-pub fn next_word(text: &[u8], at: usize) -> Option<Span>
-    requires { at ≤ length text.now }
-    ensures { Next text.now at result }
-{
-    let rest = &text[at..];
-    let from = at + run_of(rest, Class::Gap);
-    let word = &text[from..];
-    let to = from + run_of(word, Class::Ink);
-    if from == to {
-        return None;
-    }
-    Some(Span { from, to })
+// A line's text, read word by word: how much of it is read.
+#[derive(Drop)]
+pub struct Reader<'a> {
+    pub text: &'a [u8],
+    pub at: usize,
+    ghost within: { at ≤ length text.now },
 }

@@ -8,4 +8,4 @@ returns-then-x-n c =
     let a = c.args in
     let v = c.loop-b in
     let x = c.digit_value-x.ensures in
-    digit_large a.word.now v.n v.b-index v.invariant.1 a.column (omega arith) (omega arith)
+    rw c.at.ensures (digit_large a.word.now v.n v.b-index v.invariant.1 a.column (omega arith) (omega arith))
