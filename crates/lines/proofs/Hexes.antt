@@ -8,33 +8,15 @@ use lib.Dec.{ltb}
 use Rattle.std.specs.Prelude.{Ok}
 use lib.ListN.{length, take, drop, set, get_or, length-drop}
 use lib.Seq.{drop-cons, take-suc-set, take-nil, length-take-le}
-use borrow.Author.Tests.{lt-ltb, le-ltb, eq-eqb, ne_eqb, ltb-true, ltb-false}
+use borrow.Author.Tests.{le-ltb, ne_eqb, ltb-true, ltb-false}
 use Rattle.lines.specs.Words.{hex_digit, leading}
 use Rattle.lines.specs.Hex.{hex_at, hex_byte, hex_pairs, hex_bytes, Decoded}
-use Rattle.lines.specs.declared.Fault.TheVariants.{Hex, Long, Odd}
-use Rattle.lines.specs.Mistakes.{wrong}
 use Rattle.lines.proofs.Cases.{by_test}
 
--- ---- the judgement
-module _ (column : ℕ) (s : List ℕ) (n : ℕ) (e : n ≡ leading hex_digit s) where
-  pub say_hex : n < length s → wrong Hex (column + n) ≡ hex_at column s
-  say_hex l =
-      let m : leading hex_digit s < length s = omega arith in
-      rw (lt-ltb (leading hex_digit s) (length s) m, e)
-
-  module _ (l : length s ≤ n) where
-    all_hex : length s ≤ leading hex_digit s
-    all_hex = omega arith
-
-    pub say_long : 1024 < length s → wrong Long column ≡ hex_at column s
-    say_long g = rw (le-ltb (leading hex_digit s) (length s) all_hex, lt-ltb 1024 (length s) g)
-
-    module _ (g : length s ≤ 1024) where
-      pub say_odd : length s % 2 ≡ 1 → wrong Odd column ≡ hex_at column s
-      say_odd o = rw (le-ltb (leading hex_digit s) (length s) all_hex, le-ltb 1024 (length s) g, eq-eqb (length s % 2) 1 o)
-
-      pub say_part : (length s % 2 ≡ 1 → ⊥) → Ok (record { from = column - 1; to = column - 1 + length s }) ≡ hex_at column s
-      say_part o = rw (le-ltb (leading hex_digit s) (length s) all_hex, le-ltb 1024 (length s) g, ne_eqb (length s % 2) 1 o)
+-- ---- an even number of hex digits, and not too many
+pub say_part : (column : ℕ) (s : List ℕ) → length s ≤ leading hex_digit s → length s ≤ 1024 → (length s % 2 ≡ 1 → ⊥)
+    → Ok (record { from = column - 1; to = column - 1 + length s }) ≡ hex_at column s
+say_part column s l g o = rw (le-ltb (leading hex_digit s) (length s) l, le-ltb 1024 (length s) g, ne_eqb (length s % 2) 1 o)
 
 -- ---- the bytes: those that are written, with those of the digits that are left, are all of them
 abbrev pub Pairing : List ℕ → List ℕ → ℕ → Type 0

@@ -157,6 +157,6 @@ module _ (upper : Bool) where
   hex_reads_back column bs h l =
       let n = hex_length bs in
       let a = sym (hex_leading bs h) in (
-        sym (say_part column (hex_digits upper bs) (length (hex_digits upper bs)) a (omega arith) (omega arith) (λ e. omega arith)) ∙ rw n,
+        sym (say_part column (hex_digits upper bs) (omega arith) (omega arith) (λ e. omega arith)) ∙ rw n,
         rw (hex_pairs_lem bs h) (take_all 512 bs l),
       )

@@ -1,19 +1,18 @@
 -- A list as it is read: what is stored, with what is left to read, is the whole list, up to 17.
 use Prim.Native.Nat.{ℕ, suc, ◌+◌, ◌-◌, ◌<◌, ◌≤◌}
 use mathlib.Core.Path.{◌≡◌, refl, ap, sym, ◌∙◌, subst}
-use mathlib.Core.List.{List, [], ◌∷◌, ◌++◌, map, append_assoc, append-nil}
+use mathlib.Core.List.{List, [], ◌∷◌, ◌++◌, map, append_assoc}
 use native.Mathlib.Numerals.{add-one}
 use native.Mathlib.Omega.{arith}
 use lib.Dec.{ltb}
 use Rattle.std.specs.Prelude.{Result, Ok, Err}
-use lib.ListN.{length, take, set, length-append, length-set, length-map}
-use lib.Seq.{take-suc-set, take-set-le, take-nil}
+use lib.ListN.{length, take, set, length-append, length-set}
+use lib.Seq.{take-suc-set, take-set-le}
 use borrow.Author.Tests.{ltb-true, ltb-false}
 use Rattle.model.specs.Lists.{pick}
 use Rattle.lines.specs.Words.{Word, word}
 use Rattle.lines.specs.Numbers.{item_at}
-use Rattle.lines.specs.Lines.{before, items, Begins}
-use Rattle.lines.specs.Promises.{Listing}
+use Rattle.lines.specs.Lines.{before, items}
 use Rattle.lines.proofs.Cases.{by_test}
 use Rattle.lines.specs.declared.Mistake.{Mistake}
 use Rattle.lines.specs.declared.numbers.Row.{Row}
@@ -32,9 +31,6 @@ pub record Stored (rest whole : Result (List (ℕ × ℕ)) Mistake) (firsts seco
   pub first : take count firsts ≡ map (λ p. p.0) done
   pub second : take count seconds ≡ map (λ p. p.1) done
   pub sum : capped (17 - count) done rest ≡ capped 17 [] whole
-
-pub stored_none : (r : Result (List (ℕ × ℕ)) Mistake) (firsts seconds : List ℕ) → length firsts ≡ 17 → length seconds ≡ 17 → Stored r r firsts seconds 0
-stored_none r fs ss p q = record { done = []; filled = refl; room = omega arith; firsts_size = p; seconds_size = q; first = refl; second = refl; sum = refl }
 
 -- one more is stored
 capped_more : (k : ℕ) (done : List (ℕ × ℕ)) (p : ℕ × ℕ) (r : Result (List (ℕ × ℕ)) Mistake) → capped (suc k) done (before (Ok p) r) ≡ capped k (done ++ (p ∷ [])) r
@@ -94,44 +90,14 @@ module _ (p : ℕ × ℕ) (rest whole : Result (List (ℕ × ℕ)) Mistake) (fs 
       (λ t. rw (n, f, g, t) (stored_more (ltb-true count 17 t)))
       (λ t. rw (n, f, g, t) (stored_full (ltb-false count 17 t)))
 
--- a fault behind the stored ones
-pub stored_bad : (x : Mistake) (whole : Result (List (ℕ × ℕ)) Mistake) (fs ss : List ℕ) (count : ℕ) → Stored (Err x) whole fs ss count
-    → Listing whole (Err x) fs ss
-stored_bad x (Ok ps) fs ss count s = let e = s.sum in let z : ◌≡◌ {A = ℕ} 0 1 = cc in absurd (omega arith)
-stored_bad x (Err m) fs ss count s = let e = s.sum in record { told = cc; first = refl; second = refl }
-
--- the list's end
-stored_begins : (f : ℕ × ℕ → ℕ) (done list : List (ℕ × ℕ)) (t : List ℕ) (count : ℕ) → done ≡ list → length done ≡ count → take count t ≡ map f done → Begins t (map f list)
-stored_begins f done list t count e n q =
-    let l : length (map f list) ≡ count = length-map list f ∙ ap length (sym e) ∙ n in
-    rw l (q ∙ ap (map f) e)
-
-pub stored_end : (whole : Result (List (ℕ × ℕ)) Mistake) (fs ss : List ℕ) (count : ℕ) → Stored (Ok []) whole fs ss count → Listing whole (Ok count) fs ss
-stored_end (Ok ps) fs ss count s =
-    let q = s.sum in
-    let j : s.done ++ take (17 - count) [] ≡ take 17 ps = cc in
-    let e : s.done ≡ take 17 ps = rw (take-nil, append-nil) at j in
-    record {
-      told = ap Ok (sym s.filled ∙ ap length e);
-      first = stored_begins (λ p. p.0) s.done (take 17 ps) fs count e s.filled s.first;
-      second = stored_begins (λ p. p.1) s.done (take 17 ps) ss count e s.filled s.second;
-    }
-stored_end (Err m) fs ss count s = let e = s.sum in let z : ◌≡◌ {A = ℕ} 0 1 = cc in absurd (omega arith)
-
 -- ---- the same, over the words that are left
 module _ (row : Row) (ws : List Word) {whole : Result (List (ℕ × ℕ)) Mistake} {fs ss : List ℕ} {count : ℕ} (s : Stored (items row ws) whole fs ss count) where
-  pub list_end : ws ≡ [] → Listing whole (Ok count) fs ss
-  list_end e = stored_end whole fs ss count (subst (λ (v : List Word). Stored (items row v) whole fs ss count) e s)
-
   module _ (column : ℕ) (bytes : List ℕ) (rest : List Word) (e : ws ≡ word column bytes ∷ rest) where
     -- the first word's item stands before the rest
     first_item : (i : Result (ℕ × ℕ) Mistake) → item_at row column bytes ≡ i → Stored (before i (items row rest)) whole fs ss count
     first_item i t =
         subst (λ (x : Result (ℕ × ℕ) Mistake). Stored (before x (items row rest)) whole fs ss count) t
         (subst (λ (v : List Word). Stored (items row v) whole fs ss count) e s)
-
-    pub list_bad : {x : Mistake} → item_at row column bytes ≡ Err x → Listing whole (Err x) fs ss
-    list_bad {x} t = stored_bad x whole fs ss count (first_item (Err x) t)
 
     pub list_turn : {p : ℕ × ℕ} → item_at row column bytes ≡ Ok p
         → (fs' ss' : List ℕ) (count' : ℕ) → count' ≡ pick (ltb count 17) (count + 1) count → fs' ≡ set fs count p.0 → ss' ≡ set ss count p.1

@@ -43,7 +43,8 @@ impl Class {
 
 // How many bytes at the beginning are of the class.
 pub fn run_of(bytes: &[u8], class: Class) -> usize
-    ensures { result ≡ leading (of_class class) bytes.now }
+    ensures value { result ≡ leading (of_class class) bytes.now }
+    ensures within { result ≤ length bytes.now }
 {
     for (i, b) in bytes.iter().enumerate() {
         if !class.has(*b) {

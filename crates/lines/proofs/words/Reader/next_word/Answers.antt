@@ -9,12 +9,12 @@ use Rattle.lines.proofs.words.Reader.next_word.Goals.{After-run_of, After-run_of
 
 -- the blanks end within the text
 begins : (c : After-run_of) → c.args.self.now.at + c.run_of.result ≤ length c.args.self.now.text.now
-begins c = let r = c.args.self.now in gap_within r.text.now r.at c.run_of.result r.within c.run_of.ensures
+begins c = let r = c.args.self.now in gap_within r.text.now r.at c.run_of.result r.within c.run_of.ensures.value
 
 -- where they end, and the word behind them
 found : (c : After-run_of-2) → Searched c.args.self.now.text.now c.args.self.now.at
     (record { from = c.args.self.now.at + c.run_of.result; to = c.args.self.now.at + c.run_of.result + c.run_of-2.result })
-found c = let r = c.args.self.now in run_found r.text.now r.at c.run_of.result r.within c.run_of.ensures c.run_of-2.result c.run_of-2.ensures
+found c = let r = c.args.self.now in run_found r.text.now r.at c.run_of.result r.within c.run_of.ensures.value c.run_of-2.result c.run_of-2.ensures.value
 
 pub overflow_add-from : goal.overflow_add-from
 overflow_add-from c = omega (arith, begins (goal.at.overflow_add-from c).After-run_of)
