@@ -404,10 +404,7 @@ pub fn served(
     line: &[u8],
     number: u64,
 ) -> Desk {
-    let mut listed = Listed {
-        firsts: [0; 17],
-        seconds: [0; 17],
-    };
+    let mut listed = Listed::empty();
     let call = match lines::read_line(line, &mut listed) {
         Ok(call) => call,
         Err(mistake) => {

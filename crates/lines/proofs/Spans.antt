@@ -130,11 +130,7 @@ next_found text at gap ink h g i =
     }
 
 -- the same of the rest of a text as code cuts it
-module _ (text : List ℕ) (at gap : ℕ) (h : at ≤ length text) (g : gap ≡ leading (of_class Gap) (take (length text - at) (drop at text))) where
-  pub gap_within : at + gap ≤ length text
-  gap_within = run_from (of_class Gap) text at gap h (g ∙ ap (leading (of_class Gap)) (rest_of text at))
-
-  pub run_found : (ink : ℕ) → ink ≡ leading (of_class Ink) (take (length text - (at + gap)) (drop (at + gap) text))
-      → Searched text at (record { from = at + gap; to = at + gap + ink })
-  run_found ink i =
-      next_found text at gap ink h (g ∙ ap (leading (of_class Gap)) (rest_of text at)) (i ∙ ap (leading (of_class Ink)) (rest_of text (at + gap)))
+pub run_found : (text : List ℕ) (at gap : ℕ) → at ≤ length text → gap ≡ leading (of_class Gap) (take (length text - at) (drop at text))
+    → (ink : ℕ) → ink ≡ leading (of_class Ink) (take (length text - (at + gap)) (drop (at + gap) text)) → Searched text at (record { from = at + gap; to = at + gap + ink })
+run_found text at gap h g ink i =
+    next_found text at gap ink h (g ∙ ap (leading (of_class Gap)) (rest_of text at)) (i ∙ ap (leading (of_class Ink)) (rest_of text (at + gap)))

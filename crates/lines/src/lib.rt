@@ -85,6 +85,16 @@ pub struct Listed {
     pub seconds: [u64; 17],
 }
 
+impl Listed {
+    // No number yet.
+    pub fn empty() -> Listed {
+        Listed {
+            firsts: [0; 17],
+            seconds: [0; 17],
+        }
+    }
+}
+
 // The call that a line is, its comment cut off.
 fn read_text(text: &[u8], listed: &mut Listed) -> Result<Call, Mistake>
     ensures { Reading (of_text text.now) result listed.new.firsts listed.new.seconds }
