@@ -68,11 +68,10 @@ fn change(
     journal: &mut [u8],
     desk: &Desk,
     call: Call,
-    firsts: &[u64; 17],
-    seconds: &[u64; 17],
+    listed: &Listed,
 ) -> Changed {
-    let objects = &firsts[..];
-    let values = &seconds[..];
+    let objects = &listed.firsts[..];
+    let values = &listed.seconds[..];
     let h = desk.heads;
     let used = desk.place;
     match call {
@@ -452,7 +451,7 @@ pub fn served(
         Call::Commit(_, _) | Call::Gossip(_, _, _) | Call::Flush(_) => {
             let done = change(
                 disk, dated, pending, past, snapshots, copies, copied, journal, &desk, call,
-                &listed.firsts, &listed.seconds,
+                &listed,
             );
             settled(rt, path, journal, desk, done)
         }
