@@ -163,7 +163,13 @@ pub fn served(
     line: &[u8],
     number: u64,
 ) -> Desk {
-    let order = lines::orders::read_order(line);
+    let order = match lines::orders::read_order(line) {
+        Ok(order) => order,
+        Err(mistake) => {
+            let said = say::wrong(rt, mistake, number);
+            return desk.after(said);
+        }
+    };
     match order {
         Order::Blank => desk,
         Order::Help => {
@@ -171,12 +177,6 @@ pub fn served(
             desk.after(said)
         }
         Order::Quit => desk.ended(),
-        Order::Wrong(fault, column) => {
-            let f = fault;
-            let c = column;
-            let said = say::wrong(rt, f, number, c);
-            desk.after(said)
-        }
         Order::Granted => {
             let said = show(rt, state);
             desk.after(said)

@@ -4,7 +4,7 @@ use changes::settling::Changed;
 use files::file::Renewal;
 use files::{file, paths, room};
 use journal::place::Place;
-use lines::Call;
+use lines::{Call, Listed};
 use model::Answer;
 use reads::Knowledge;
 use restart::Started;
@@ -68,11 +68,10 @@ fn change(
     journal: &mut [u8],
     desk: &Desk,
     call: Call,
-    firsts: &[u64; 17],
-    seconds: &[u64; 17],
+    listed: &Listed,
 ) -> Changed {
-    let objects = &firsts[..];
-    let values = &seconds[..];
+    let objects = &listed.firsts[..];
+    let values = &listed.seconds[..];
     let h = desk.heads;
     let used = desk.place;
     match call {
@@ -404,9 +403,14 @@ pub fn served(
     line: &[u8],
     number: u64,
 ) -> Desk {
-    let mut firsts = [0u64; 17];
-    let mut seconds = [0u64; 17];
-    let call = lines::read_line(line, &mut firsts, &mut seconds);
+    let mut listed = Listed::empty();
+    let call = match lines::read_line(line, &mut listed) {
+        Ok(call) => call,
+        Err(mistake) => {
+            let said = terminal::say::wrong(rt, mistake, number);
+            return desk.after(said);
+        }
+    };
     match call {
         Call::Blank => desk,
         Call::Help(topic) => {
@@ -414,12 +418,6 @@ pub fn served(
             desk.after(said)
         }
         Call::Quit => desk.ended(),
-        Call::Wrong(fault, column) => {
-            let f = fault;
-            let c = column;
-            let said = terminal::say::wrong(rt, f, number, c);
-            desk.after(said)
-        }
         Call::Fresh => fresh(
             rt, disk, dated, pending, past, snapshots, copies, copied, path, desk,
         ),
@@ -453,7 +451,7 @@ pub fn served(
         Call::Commit(_, _) | Call::Gossip(_, _, _) | Call::Flush(_) => {
             let done = change(
                 disk, dated, pending, past, snapshots, copies, copied, journal, &desk, call,
-                &firsts, &seconds,
+                &listed,
             );
             settled(rt, path, journal, desk, done)
         }

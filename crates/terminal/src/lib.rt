@@ -13,9 +13,5 @@ ghost use Rattle.io.specs.Counts.{IsPrefixLen};
 pub fn entries(count: usize, list: &[u64]) -> usize
     ensures { IsPrefixLen result list.now }
 {
-    if count <= list.len() {
-        count
-    } else {
-        list.len()
-    }
+    count.min(list.len())
 }

@@ -4,7 +4,7 @@ ghost use Rattle.io.specs.Counts.{IsPrefixLen};
 
 use answers::line::Line;
 use files::trouble;
-use lines::Fault;
+use lines::Mistake;
 use model::Answer;
 use std::os::fd::{AsFd, BorrowedFd};
 
@@ -89,25 +89,11 @@ pub fn bytes(rt: &HostRuntime, a: Answer, bytes: &[u8]) -> bool {
     line(rt, &answers::bytes_line(a, bytes))
 }
 
-fn number_of(fault: Fault) -> u64 {
-    match fault {
-        Fault::Unknown => 0,
-        Fault::Missing => 1,
-        Fault::Digit => 2,
-        Fault::Large => 3,
-        Fault::Equals => 4,
-        Fault::Extra => 5,
-        Fault::Hex => 6,
-        Fault::Long => 7,
-        Fault::Odd => 8,
-    }
-}
-
-pub fn wrong(rt: &HostRuntime, fault: Fault, number: u64, column: usize) -> bool {
-    line(
-        rt,
-        &answers::fault_line(number_of(fault), number, column as u64),
-    )
+// The answer to the line of this number, which is no call.
+pub fn wrong(rt: &HostRuntime, mistake: Mistake, number: u64) -> bool {
+    let fault = mistake.fault as u64;
+    let column = mistake.column as u64;
+    line(rt, &answers::fault_line(fault, number, column))
 }
 
 // `? line N`, and what is wrong with the whole of it.
