@@ -100,6 +100,13 @@ new_room h t os vs e c s d disk dated pending past snapshots copies copied =
       past_room = rw (a, up_to_length (past_of []) h.past (pasts past)) c.past_count;
     }
 
+-- and the past values are as they were
+pub past_kept : (t : ℕ) (os vs : List ℕ) (pending past : List (List ℕ)) (snapshots : List ℕ) (copies : List (List ℕ)) (copied disk dated : List ℕ) (h : Heads) → h.pending ≡ 0 → twice_b os ≡ false
+    → (commit_store (contents disk dated pending past snapshots copies copied h) t (paired os vs)).past ≡ up_to (past_of []) h.past (pasts past)
+unfolding last_at
+past_kept t os vs pending past snapshots copies copied disk dated h e d =
+    ap (λ st. st.past) (commit_new t os vs (contents disk dated pending past snapshots copies copied h) (none_pending pending h e) d)
+
 -- ---- the loop: the entries of the first k writes, with those to come, are all
 module _ (t : ℕ) (os vs : List ℕ) where
   abbrev pub Adding : List Pending → ℕ → Type 0

@@ -13,17 +13,18 @@ use Rattle.model.specs.declared.Answer.TheVariants.{Late, PendingFull, PastFull}
 use Rattle.model.specs.declared.Verdict.{Verdict}
 use Rattle.model.specs.declared.Verdict.TheVariants.{Accepted, Idle, Refused}
 use Rattle.model.specs.Answers.{code_of}
-use Rattle.model.specs.Lists.{pick, both, either}
+use Rattle.model.specs.Lists.{pick, both, either, twice_b}
 use Rattle.model.specs.Store.{Store}
 use Rattle.model.specs.Changes.{Write, paired, last_at, commit_store}
 use Rattle.model.specs.Judgement.{judge_commit}
 use Rattle.tables.specs.declared.Heads.{Heads}
+use Rattle.tables.specs.declared.Store as whole
 use Rattle.tables.specs.Rows.{pending_of, past_of, pendings, pasts, up_to}
-use Rattle.tables.specs.Contents.{contents}
+use Rattle.tables.specs.Contents.{contents, stored}
 use Rattle.tables.proofs.Cases.{by_test}
 use Rattle.tables.proofs.Counts.{up_to_length}
 use Rattle.tables.proofs.Searches.{both_left, both_right}
-use Rattle.commits.specs.Rows.{trues, new_in, live_by, displaces_in}
+use Rattle.commits.specs.Rows.{trues, new_in, live_in, live_by, displaces_in}
 use Rattle.commits.specs.Promises.{Ready, Room}
 use Rattle.commits.proofs.Counting.{trues_few}
 use Rattle.commits.proofs.Growth.{pending_growth, past_growth}
@@ -70,7 +71,7 @@ module _ {pending : List (List ℕ)} {snapshots : List ℕ} {copies : List (List
     abbrev before : Store
     before = contents disk dated pending past snapshots copies copied h
 
-    left_pending : length (commit_store before t (paired os vs)).pending ≡ h.pending + news
+    pub left_pending : length (commit_store before t (paired os vs)).pending ≡ h.pending + news
     unfolding last_at
     left_pending =
         let n : length entries ≡ h.pending = up_to_length (pending_of []) h.pending (pendings pending) in
@@ -78,7 +79,7 @@ module _ {pending : List (List ℕ)} {snapshots : List ℕ} {copies : List (List
         pending_growth t os vs (last_at before t) l r.once in
         rw (← as_taken) (omega arith)
 
-    left_past : length (commit_store before t (paired os vs)).past ≡ h.past + olds copied
+    pub left_past : length (commit_store before t (paired os vs)).past ≡ h.past + olds copied
     unfolding last_at
     left_past =
         let n : length before.past ≡ h.past = up_to_length (past_of []) h.past (pasts past) in
@@ -125,6 +126,23 @@ module _ {pending : List (List ℕ)} {snapshots : List ℕ} {copies : List (List
             let x = left_pending disk dated past copied vs l in
             let y = left_past disk dated past copied vs l in
             say_accepted (before disk dated past copied vs l) t (paired os vs) (omega arith) (omega arith) (omega arith) (omega (arith, d copied))
+
+-- a commit of so many writes fits, whatever they add: each adds one entry and one past value at most
+pub roomy_room_anew : (s : whole.Store) (t : ℕ) (os vs : List ℕ) → twice_b os ≡ false → length vs ≡ length os
+    → both (leb (s.heads.pending + length os) 128) (leb (s.heads.past + length os) 256) ≡ true → Room (commit_store (stored s) t (paired os vs))
+unfolding last_at
+roomy_room_anew s t os vs d l e =
+    let st = stored s in
+    let p = leb-true (s.heads.pending + length os) 128 (both_left (leb (s.heads.pending + length os) 128) (leb (s.heads.past + length os) 256) e) in
+    let q = leb-true (s.heads.past + length os) 256 (both_right (leb (s.heads.pending + length os) 128) (leb (s.heads.past + length os) 256) e) in
+    let n = trues_few (new_in st.pending) os in
+    let o = trues_few (displaces_in (live_in (last_at st t)) t st.pending) os in
+    let a = up_to_length (pending_of []) s.heads.pending (pendings s.written.pending) in
+    let b = up_to_length (past_of []) s.heads.past (pasts s.written.past) in
+    record {
+      pending_room = omega (arith, pending_growth t os vs (last_at st t) l d);
+      past_room = omega (arith, past_growth t os vs (last_at st t) l d);
+    }
 
 -- ---- the same where there is room, whatever the tables
 module _ (h : Heads) (t : ℕ) {latest : ℕ} (late : latest ≡ max h.last h.horizon) where

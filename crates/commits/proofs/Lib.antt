@@ -6,3 +6,4 @@ pub mod Finding
 pub mod OneWrite
 pub mod Writing
 pub mod Judged
+pub mod Whole

@@ -2,12 +2,13 @@
 use Rattle.std.specs.Prelude.{ℕ, ◌≤◌, ◌≡◌, true, false, List, [], length, take, ltb}
 use Rattle.model.specs.declared.Past.{Past}
 use Rattle.model.specs.Lists.{all_b, twice_b, rising_from, add_if}
-use Rattle.model.specs.Store.{Store}
+use Rattle.model.specs.Store as model
 use Rattle.model.specs.Changes.{Write, write_one, commit_store}
 use Rattle.tables.specs.declared.Heads.{Heads}
+use Rattle.tables.specs.declared.Store.{Store}
 use Rattle.tables.specs.Rows.{past_of, pendings, pasts, copy_heads, up_to}
 use Rattle.tables.specs.Lookups.{find_pending, row_of, Indexed}
-use Rattle.tables.specs.Contents.{contents, Counted}
+use Rattle.tables.specs.Contents.{contents, stored, Counted}
 use Rattle.commits.specs.declared.Grown.{Grown}
 use Rattle.commits.specs.Rows.{live_by}
 
@@ -33,7 +34,7 @@ pub record OneReady (pending : List (List ℕ)) (snapshots : List ℕ) (copies :
   pub found : row ≡ row_of (find_pending o (take h.pending (pendings pending)))
 
 -- the store fits the two tables that a commit adds to
-pub record Room (st : Store) : Type 0 where
+pub record Room (st : model.Store) : Type 0 where
   pub pending_room : length st.pending ≤ 128
   pub past_room : length st.past ≤ 256
 
@@ -65,3 +66,27 @@ pub record Added (past past' : List (List ℕ)) (snapshots : List ℕ) (copies :
   pub contains : (copied : List ℕ) → up_to (past_of []) n (pasts past') ≡ past_with past snapshots copies copied h q
   pub past_rows : length (pasts past') ≡ 256
   pub count : n ≤ 256
+
+-- ---- over the whole store. Counts within the tables, ascending snapshots, a well-formed list of objects, and an index of the entries
+pub record ReadyAnew (store : Store) (os index : List ℕ) : Type 0 where
+  pub counted : Counted store.heads
+  pub rising : rising_from 0 (take store.heads.snapshots store.snapshots) ≡ true
+  pub short : length os ≤ 16
+  pub once : twice_b os ≡ false
+  pub in_range : all_b (λ o. ltb o 512) os ≡ true
+  pub indexed : Indexed index (take store.heads.pending (pendings store.written.pending))
+
+-- what a commit leaves as it was: all tables but the entries and the past values, and the counts of the others
+pub record Untouched (store store' : Store) : Type 0 where
+  pub disk : store'.written.disk ≡ store.written.disk
+  pub dated : store'.written.dated ≡ store.written.dated
+  pub snapshots : store'.snapshots ≡ store.snapshots
+  pub copies : store'.copies ≡ store.copies
+  pub copied : store'.copied ≡ store.copied
+  pub snapshot_count : store'.heads.snapshots ≡ store.heads.snapshots
+  pub copy_count : store'.heads.copies ≡ store.heads.copies
+
+pub record AppliedAnew (store store' : Store) (t : ℕ) (ws : List Write) : Type 0 where
+  pub contains : stored store' ≡ commit_store (stored store) t ws
+  pub counted : Counted store'.heads
+  pub untouched : Untouched store store'

@@ -5,8 +5,9 @@ use Rattle.model.specs.Store.{live_b}
 use Rattle.model.specs.Judgement as judgement
 use Rattle.model.specs.Changes.{gossip_store}
 use Rattle.tables.specs.declared.Heads.{Heads}
+use Rattle.tables.specs.declared.Store.{Store}
 use Rattle.tables.specs.Rows.{pasts, copy_heads, copies_of}
-use Rattle.tables.specs.Contents.{contents, Counted}
+use Rattle.tables.specs.Contents.{contents, stored, Counted}
 use Rattle.gossips.specs.declared.Compared.{Compared}
 use Rattle.gossips.specs.declared.Compared.TheVariants.{Same, Differ}
 
@@ -50,3 +51,26 @@ pub record Applied (past past' : List (List ℕ)) (snapshots snapshots' : List �
   pub past_rows : length (pasts past') ≡ 256
   pub snapshot_words : length snapshots' ≡ 64
   pub counted : Counted h'
+
+-- ---- over the whole store. The stamps ascend, and so do the known snapshots with the new ones behind them
+pub record ReadyAnew (store : Store) (stamps : List ℕ) : Type 0 where
+  pub counted : Counted store.heads
+  pub pages_in : all_b (λ c. ltb c.page 32) (take store.heads.copies (copy_heads store.copies)) ≡ true
+  pub room : store.heads.snapshots + length (kept (ltb store.heads.horizon) stamps) ≤ 64
+  pub stamps_rise : rising_from 0 stamps ≡ true
+  pub rising : rising_from 0 (take store.heads.snapshots store.snapshots ++ kept (ltb store.heads.horizon) stamps) ≡ true
+
+-- what a message leaves as it was: all tables but the snapshots and the past values, and the counts of the others
+pub record Untouched (store store' : Store) : Type 0 where
+  pub disk : store'.written.disk ≡ store.written.disk
+  pub dated : store'.written.dated ≡ store.written.dated
+  pub pending : store'.written.pending ≡ store.written.pending
+  pub copies : store'.copies ≡ store.copies
+  pub copied : store'.copied ≡ store.copied
+  pub pending_count : store'.heads.pending ≡ store.heads.pending
+  pub copy_count : store'.heads.copies ≡ store.heads.copies
+
+pub record AppliedAnew (store store' : Store) (curr : ℕ) (stamps : List ℕ) : Type 0 where
+  pub contains : stored store' ≡ gossip_store (stored store) curr stamps
+  pub counted : Counted store'.heads
+  pub untouched : Untouched store store'

@@ -5,11 +5,11 @@ ghost use Rattle.std.specs.Prelude.{◌≡◌, true, List, [], ℕ, ◌+◌, ◌
 ghost use Rattle.model.specs.Lists.{both, all_b, kept, rising_from};
 ghost use Rattle.model.specs.Judgement.{compared, judge_gossip};
 ghost use Rattle.tables.specs.Rows.{pasts, copy_heads};
-ghost use Rattle.tables.specs.Contents.{contents};
-ghost use Rattle.gossips.specs.Promises.{compared_as, Skipped, Added, Dropped, Ready, Applied};
+ghost use Rattle.tables.specs.Contents.{contents, stored};
+ghost use Rattle.gossips.specs.Promises.{compared_as, Skipped, Added, Dropped, Ready, ReadyAnew, Applied, AppliedAnew};
 
 use model::{Answer, Verdict};
-use tables::{CopyTable, Heads, PastTable, Snapshots};
+use tables::{CopyTable, Heads, PastTable, Snapshots, Store, Written};
 
 // How a message's stamps stand against the known snapshots.
 #[derive(Clone, Copy)]
@@ -196,4 +196,38 @@ pub fn apply_gossip(
         horizon: curr,
         last: h.last,
     }
+}
+
+// What the store says of the message: Gap, Conflict, nothing new, Snapshots full, or accepted.
+pub fn judge_gossip_anew(store: &Store, prev: u64, curr: u64, stamps: &[u64]) -> Verdict
+    requires counted { store.now.heads.snapshots ≤ 64 }
+    requires well_formed { (length stamps.now ≤ 16) × (rising_from prev stamps.now ≡ true) }
+    requires rising { rising_from 0 (take store.now.heads.snapshots store.now.snapshots) ≡ true }
+    ensures { result ≡ judge_gossip (stored store.now) prev curr stamps.now }
+{
+    judge_gossip(&store.snapshots, store.heads, prev, curr, stamps)
+}
+
+// The past values have the rows of their type, which a contract knows of a table, and not of one in a struct in a struct.
+fn rows(written: &Written)
+    ensures { length (pasts written.now.past) ≡ 256 }
+{
+    let _ = &written.past;
+}
+
+// Stamps beyond the horizon become known, the horizon moves, and dead past values go.
+pub fn apply_gossip_anew(store: &mut Store, curr: u64, stamps: &[u64])
+    requires { ReadyAnew store.old stamps.now }
+    ensures { AppliedAnew store.old store.new curr stamps.now }
+{
+    rows(&store.written);
+    let h = store.heads;
+    store.heads = apply_gossip(
+        &mut store.written.past,
+        &mut store.snapshots,
+        &store.copies,
+        h,
+        curr,
+        stamps,
+    );
 }
