@@ -4,6 +4,7 @@ ghost use Rattle.tables.specs.Contents.{contents, stored};
 ghost use Rattle.reads.specs.Read.{Read};
 
 use model::Answer;
+use requests::Request;
 use tables::{Copied, CopyTable, Disk, Heads, PastTable, PendingTable, Snapshots, Store};
 
 // The request from the horizon to a stamp, at the buffer's front.
@@ -31,7 +32,11 @@ pub fn ask(
     if to < h.horizon {
         return Answer::Shape;
     }
-    requests::write(buffer, h.horizon, to);
+    let request = Request {
+        from: h.horizon,
+        to,
+    };
+    request.write(buffer);
     Answer::Done(19)
 }
 

@@ -7,7 +7,7 @@ ghost use Rattle.model.specs.Records.{encode, write_bytes, stamp_bytes};
 ghost use Rattle.model.specs.Calls.{version, reached};
 ghost use Rattle.journal.specs.Places.{Moved, Appended};
 
-#[derive(Clone, Copy)]
+#[derive(Clone, Copy, PartialEq, Eq, Debug)]
 pub struct Place {
     pub at: usize,
 }

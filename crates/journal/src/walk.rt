@@ -8,39 +8,33 @@ ghost use Rattle.journal.specs.Heads.{head_decoded, head_step};
 
 use crate::place::Place;
 
-#[derive(Clone, Copy)]
+#[derive(Clone, Copy, PartialEq, Eq, Debug)]
 pub struct CommitHead {
     pub stamp: u64,
     pub count: usize,
 }
 
-#[derive(Clone, Copy)]
+#[derive(Clone, Copy, PartialEq, Eq, Debug)]
 pub struct GossipHead {
     pub prev: u64,
     pub curr: u64,
     pub count: usize,
 }
 
-#[derive(Clone, Copy)]
+#[derive(Clone, Copy, PartialEq, Eq, Debug)]
 pub struct FlushHead {
     pub page: u64,
 }
 
-#[derive(Clone, Copy)]
+#[derive(Clone, Copy, PartialEq, Eq, Debug)]
 pub enum Record {
     Commit(CommitHead),
     Gossip(GossipHead),
     Flush(FlushHead),
 }
 
-#[derive(Clone, Copy)]
-pub enum Decoded {
-    Good(Record),
-    Bad,
-}
-
 // What the walk finds: the journal's end, a record whose bytes aren't all there, a malformed one at an offset, or a whole one.
-#[derive(Clone, Copy)]
+#[derive(Clone, Copy, PartialEq, Eq, Debug)]
 pub enum Step {
     End,
     Short,
@@ -76,68 +70,68 @@ fn stamps_good(body: &[u8], count: usize, prev: u64, curr: u64) -> bool
 }
 
 // Each reads a body, the part of the journal behind a kind byte.
-fn read_commit(body: &[u8]) -> Decoded
+fn read_commit(body: &[u8]) -> Option<Record>
     ensures { result ≡ head_decoded (checked (length body.now + 1) (commit_in body.now)) }
 {
     if body.len() < 9 {
-        return Decoded::Bad;
+        return None;
     }
     let count = body[8] as usize;
     if 16 < count {
-        return Decoded::Bad;
+        return None;
     }
     if body.len() != 9 + 10 * count {
-        return Decoded::Bad;
+        return None;
     }
     let stamp = fields::get_be(body, 0, 8);
     if objects_good(body, count) {
-        return Decoded::Good(Record::Commit(CommitHead { stamp, count }));
+        return Some(Record::Commit(CommitHead { stamp, count }));
     }
-    Decoded::Bad
+    None
 }
 
-fn read_gossip(body: &[u8]) -> Decoded
+fn read_gossip(body: &[u8]) -> Option<Record>
     ensures { result ≡ head_decoded (checked (length body.now + 1) (gossip_in body.now)) }
 {
     if body.len() < 17 {
-        return Decoded::Bad;
+        return None;
     }
     let count = body[16] as usize;
     if 16 < count {
-        return Decoded::Bad;
+        return None;
     }
     if body.len() != 17 + 8 * count {
-        return Decoded::Bad;
+        return None;
     }
     let prev = fields::get_be(body, 0, 8);
     let curr = fields::get_be(body, 8, 8);
     if stamps_good(body, count, prev, curr) {
-        return Decoded::Good(Record::Gossip(GossipHead { prev, curr, count }));
+        return Some(Record::Gossip(GossipHead { prev, curr, count }));
     }
-    Decoded::Bad
+    None
 }
 
-fn read_flush(body: &[u8]) -> Decoded
+fn read_flush(body: &[u8]) -> Option<Record>
     ensures { result ≡ head_decoded (checked (length body.now + 1) (flush_in body.now)) }
 {
     if body.len() != 1 {
-        return Decoded::Bad;
+        return None;
     }
     let page = body[0] as u64;
     if 32 <= page {
-        return Decoded::Bad;
+        return None;
     }
-    Decoded::Good(Record::Flush(FlushHead { page }))
+    Some(Record::Flush(FlushHead { page }))
 }
 
-fn read_record(kind: u8, body: &[u8]) -> Decoded
+fn read_record(kind: u8, body: &[u8]) -> Option<Record>
     ensures { result ≡ head_decoded (decode (length body.now + 1) kind body.now) }
 {
     match kind {
         1 => read_commit(body),
         2 => read_gossip(body),
         3 => read_flush(body),
-        _ => Decoded::Bad,
+        _ => None,
     }
 }
 
@@ -167,10 +161,10 @@ pub fn step_at(s: &[u8], p: Place) -> Step
     let next = at + 2 + length;
     let body = &s[at + 3..next];
     match read_record(kind, body) {
-        Decoded::Good(record) => Step::Whole {
+        Some(record) => Step::Whole {
             record,
             next: Place { at: next },
         },
-        Decoded::Bad => Step::Malformed(at),
+        None => Step::Malformed(at),
     }
 }
