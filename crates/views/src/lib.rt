@@ -2,15 +2,17 @@
 #![tactic(auto)]
 
 ghost use Rattle.std.specs.Prelude.{◌≡◌, false, List, map, ℕ, ◌≤◌, ◌<◌, ◌+◌, length, take, drop, get_or, set, leb};
+ghost use Rattle.model.specs.declared.Seen.{Seen};
 ghost use Rattle.model.specs.Lists.{either, pick, twice_b};
 ghost use Rattle.model.specs.Store.{page16, object_at, page_of, slot_of, pending_seen, past_seen};
 ghost use Rattle.tables.specs.Rows.{pendings, pasts};
 ghost use Rattle.tables.specs.Lookups.{Indexed};
 ghost use Rattle.tables.specs.Contents.{contents};
-ghost use Rattle.views.specs.Views.{part_of, viewed, covers_b, shows_b, lay, Lookable};
+ghost use Rattle.views.specs.Views.{part_of, viewed, covers_b, shows_b, lay, Lookable, part_of_anew, viewed_anew, LookableAnew};
+ghost use Rattle.model.specs.Store as model;
 
 use model::{Past, Pending};
-use tables::{Disk, Heads, PastTable, PendingTable};
+use tables::{Disk, Heads, Index, PastTable, PendingTable, Written};
 
 // What is asked of a page: as of a stamp or current, and the values or their ages, which are the stamps that wrote them.
 #[derive(Clone, Copy)]
@@ -19,6 +21,44 @@ pub struct View {
     pub current: bool,
     pub stamp: u64,
     pub ages: bool,
+}
+
+// A value, or its age, which is the stamp that wrote it.
+#[derive(Clone, Copy, PartialEq, Eq)]
+pub enum Word {
+    Value,
+    Age,
+}
+
+// What is asked of a page: the values or their ages, as of a stamp, or current where there is none.
+#[derive(Clone, Copy)]
+pub struct ViewAnew {
+    pub page: u64,
+    pub as_of: Option<u64>,
+    pub word: Word,
+}
+
+pub fn asked(v: ViewAnew) -> View
+    ensures { (result.page ≡ v.page) × ((x : Seen) → part_of result.ages x ≡ part_of_anew v.word x) × ((st : model.Store) (o : ℕ) → viewed st result o ≡ viewed_anew st v o) }
+{
+    let ages = match v.word {
+        Word::Value => false,
+        Word::Age => true,
+    };
+    match v.as_of {
+        None => View {
+            page: v.page,
+            current: true,
+            stamp: 0,
+            ages,
+        },
+        Some(stamp) => View {
+            page: v.page,
+            current: false,
+            stamp,
+            ages,
+        },
+    }
 }
 
 fn copy_sixteen(words: &[u64], at: usize, out: &mut [u64])
@@ -163,5 +203,35 @@ pub fn look_at(
     }
     if 0 < h.pending {
         lay_entries(pending, h.pending, index, v, out);
+    }
+}
+
+// The page's sixteen words on disk.
+pub fn lay_disk_anew(w: &Written, page: u64, word: Word, out: &mut [u64])
+    requires { (page < 32) × (length out.old ≡ 16) }
+    ensures { out.new ≡ page16 (λ k. part_of_anew word (record { value = get_or w.now.disk (object_at page k) 0; stamp = get_or w.now.dated (object_at page k) 0 })) }
+{
+    let v = asked(ViewAnew {
+        page,
+        as_of: None,
+        word,
+    });
+    lay_disk(&w.disk, &w.dated, v, out);
+}
+
+// The page as the view asks, where no copy serves.
+pub fn look_at_anew(w: &Written, h: Heads, index: &Index, view: ViewAnew, out: &mut [u64])
+    requires lookable { LookableAnew w.now h view.page }
+    requires indexed { Indexed index.now (take h.pending (pendings w.now.pending)) }
+    requires out_len { length out.old ≡ 16 }
+    ensures { (snapshots : List ℕ) (copies : List (List ℕ)) (copied : List ℕ) → out.new ≡ page16 (λ k. viewed_anew (contents w.now.disk w.now.dated w.now.pending w.now.past snapshots copies copied h) view (object_at view.page k)) }
+{
+    let v = asked(view);
+    lay_disk(&w.disk, &w.dated, v, out);
+    if !v.current {
+        lay_past(&w.past, h.past, v, out);
+    }
+    if 0 < h.pending {
+        lay_entries(&w.pending, h.pending, index, v, out);
     }
 }
