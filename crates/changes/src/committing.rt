@@ -6,18 +6,18 @@ ghost use Rattle.model.specs.Damage.{damaged};
 ghost use Rattle.model.specs.Changes.{paired};
 ghost use Rattle.model.specs.Judgement.{objects_shaped, judge_commit};
 ghost use Rattle.model.specs.Calls.{journal_shaped, commit_call};
-ghost use Rattle.tables.specs.Contents.{stored};
-ghost use Rattle.commits.specs.Promises.{ReadyAnew};
+ghost use Rattle.tables.specs.Contents.{contents, stored};
+ghost use Rattle.commits.specs.Promises.{Ready, ReadyAnew};
 ghost use Rattle.changes.specs.Left.{Left, Made, Formed};
 ghost use Rattle.changes.specs.Kept.{CommitKept};
 
-use crate::settling::ChangedAnew;
+use crate::settling::{Changed, ChangedAnew};
 use journal::place::Place;
 use model::{Answer, Verdict};
-use tables::{Index, Store};
+use tables::{Copied, CopyTable, Disk, Heads, Index, PastTable, PendingTable, Snapshots, Store};
 
 // The lists and the journal have a shape that a commit can have.
-fn commit_shaped(journal: &[u8], used: Place, objects: &[u64], values: &[u64]) -> bool
+pub fn commit_shaped(journal: &[u8], used: Place, objects: &[u64], values: &[u64]) -> bool
     ensures { result ≡ both (both (eqb (length objects.now) (length values.now)) (journal_shaped journal.now used.at)) (objects_shaped objects.now) }
 {
     objects.len() == values.len()
@@ -38,18 +38,6 @@ pub fn formed(journal: &[u8], used: Place, objects: &[u64], values: &[u64]) -> R
     Ok(())
 }
 
-// The verdict on a commit, weighed only where it might not fit. It stands here and in crate restart, and not once in commits: so the
-// compiler puts the short test in line, and the weighing behind a call.
-fn judged(store: &Store, t: u64, objects: &[u64], index: &Index) -> Verdict
-    requires { ReadyAnew store.now objects.now index.now }
-    ensures { (vs : List ℕ) → length vs ≡ length objects.now → result ≡ judge_commit (stored store.now) t (paired objects.now vs) }
-{
-    if commits::roomy(store.heads, objects.len()) {
-        return commits::judge_with_room_anew(store, t);
-    }
-    commits::judge_commit_anew(store, t, objects, index)
-}
-
 // A commit where some entry is pending.
 fn rewrite(
     store: &mut Store,
@@ -67,7 +55,7 @@ fn rewrite(
         return Err(Answer::Damaged);
     }
     formed(journal, used, objects, values)?;
-    let verdict = judged(store, t, objects, &index);
+    let verdict = commits::fitting::judge(store, t, objects, &index);
     crate::settling::settled_anew(verdict, journal, used, 10 + 10 * objects.len())?;
     commits::apply_commit_anew(store, t, objects, values, &mut index);
     Ok(used.append_commit(journal, t, objects, values))
@@ -91,4 +79,91 @@ pub fn commit_anew(
         rewrite(store, journal, used, t, objects, values)
     };
     ChangedAnew::told(made, used)
+}
+
+// The verdict on a commit, weighed only where it might not fit. It stands here and in crate restart, and not once in commits: so the
+// compiler puts the short test in line, and the weighing behind a call.
+fn judged_before(
+    pending: &PendingTable,
+    snapshots: &Snapshots,
+    copies: &CopyTable,
+    h: Heads,
+    t: u64,
+    objects: &[u64],
+    index: &[u8],
+) -> Verdict
+    requires { Ready pending.now snapshots.now copies.now h objects.now index.now }
+    ensures { (disk dated : List ℕ) (past : List (List ℕ)) (copied vs : List ℕ) → length vs ≡ length objects.now → result ≡ judge_commit (contents disk dated pending.now past snapshots.now copies.now copied h) t (paired objects.now vs) }
+{
+    if commits::roomy(h, objects.len()) {
+        return commits::judge_with_room(h, t);
+    }
+    commits::judge_commit(pending, snapshots, copies, h, t, objects, index)
+}
+
+pub fn commit(
+    disk: &Disk,
+    dated: &Disk,
+    pending: &mut PendingTable,
+    past: &mut PastTable,
+    snapshots: &Snapshots,
+    copies: &CopyTable,
+    copied: &Copied,
+    h: Heads,
+    journal: &mut [u8],
+    used: Place,
+    t: u64,
+    objects: &[u64],
+    values: &[u64],
+) -> Changed
+    ensures { Left (commit_call (contents disk.now dated.now pending.old past.old snapshots.now copies.now copied.now h) journal.old used.at t objects.now values.now) result.answer (contents disk.now dated.now pending.new past.new snapshots.now copies.now copied.now result.heads) journal.new result.place.at }
+{
+    tables::laid(*disk, *dated, *pending, *past, *snapshots, *copies, *copied);
+    if h.pending == 0 {
+        return crate::adding::commit_all_new(
+            disk, dated, pending, past, snapshots, copies, copied, h, journal, used, t, objects,
+            values,
+        );
+    }
+    let mut index = [128u8; 512];
+    if damage::damaged_or_indexed(pending, past, snapshots, copies, h, &mut index) {
+        return Changed {
+            heads: h,
+            answer: Answer::Damaged,
+            place: used,
+        };
+    }
+    if !commit_shaped(journal, used, objects, values) {
+        return Changed {
+            heads: h,
+            answer: Answer::Shape,
+            place: used,
+        };
+    }
+    if rules::named_twice(objects) {
+        return Changed {
+            heads: h,
+            answer: Answer::Twice,
+            place: used,
+        };
+    }
+    let verdict = judged_before(pending, snapshots, copies, h, t, objects, &index);
+    let answer = crate::settling::settled(verdict, journal, used, 10 + 10 * objects.len());
+    if answer.code() != 0 {
+        return Changed {
+            heads: h,
+            answer,
+            place: used,
+        };
+    }
+    let grown = commits::apply_commit(
+        pending, past, snapshots, copies, h, t, objects, values, &mut index,
+    );
+    let heads = commits::heads_after(h, grown);
+    let place = used.append_commit(journal, t, objects, values);
+    Changed {
+        heads,
+        answer,
+        place,
+    }
 }

@@ -1,6 +1,8 @@
 // A commit without its journal: judged over the tables, then written to them. Restart uses both as they stand.
 #![tactic(auto)]
 
+pub mod fitting;
+
 ghost use Rattle.std.specs.Prelude.{◌≡◌, true, false, List, map, ℕ, ◌+◌, ◌≤◌, ◌<◌, max, length, take, leb};
 ghost use Rattle.model.specs.declared.Pending.{Pending};
 ghost use Rattle.model.specs.Lists.{both, rising_from, twice_b};

@@ -2,7 +2,7 @@
 use mathlib.Core.Path.{◌∙◌, sym}
 use Rattle.model.specs.Changes.{paired}
 use Rattle.commits.proofs.Judged.{roomy_room}
-use Rattle.changes.proofs.committing.judged.Goals as goal
+use Rattle.changes.proofs.committing.judged_before.Goals as goal
 
 pub returns-then-roomy : goal.returns-then-roomy
 returns-then-roomy c =
