@@ -1,7 +1,7 @@
 -- Each test of the journal refuses it or passes it on, as the model does, and the rest is the walk.
 use native.Mathlib.Omega.{arith}
-use Rattle.restart.proofs.Walking.{rebuilt_as, restart_shape, restart_empty, restart_version, restart_walk}
-use Rattle.restart.proofs.restart.Goals as goal
+use Rattle.restart.proofs.Before.Walking.{rebuilt_as, restart_shape, restart_empty, restart_version, restart_walk}
+use Rattle.restart.proofs.lent.restart.Goals as goal
 
 pub returns-then-journal-gt65535 : goal.returns-then-journal-gt65535
 returns-then-journal-gt65535 c = let a = c.args in

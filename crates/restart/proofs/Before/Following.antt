@@ -11,7 +11,8 @@ use Rattle.journal.specs.declared.walk.Record.{Record}
 use Rattle.journal.specs.declared.walk.Record.TheVariants.{Gossip, Flush}
 use Rattle.tables.specs.Lookups.{Indexed}
 use Rattle.history.proofs.Laws.{clash}
-use Rattle.restart.specs.Turns.{indexed_after, Follows}
+use Rattle.restart.specs.lent.Turns.{indexed_after}
+use Rattle.restart.specs.Turns.{Follows}
 
 pub follows_as : {b d : Bool} {index : List ℕ} {es : List Pending} → Follows b index es → b ≡ d → Follows d index es
 follows_as {b} {d} {index} {es} f e = subst (λ (x : Bool). Follows x index es) e f

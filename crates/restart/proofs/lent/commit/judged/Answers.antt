@@ -2,7 +2,7 @@
 use mathlib.Core.Path.{◌∙◌, sym}
 use Rattle.model.specs.Changes.{paired}
 use Rattle.commits.proofs.Judged.{roomy_room}
-use Rattle.restart.proofs.commit.judged.Goals as goal
+use Rattle.restart.proofs.lent.commit.judged.Goals as goal
 
 pub returns-then-roomy : goal.returns-then-roomy
 returns-then-roomy c =

@@ -1,6 +1,6 @@
 -- The fresh store with the answer of a start from nothing.
 use Rattle.model.specs.Restart.{fresh_start}
-use Rattle.restart.proofs.fresh.Goals as goal
+use Rattle.restart.proofs.lent.fresh.Goals as goal
 
 pub returns : goal.returns
 unfolding fresh_start
