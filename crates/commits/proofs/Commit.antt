@@ -36,8 +36,16 @@ module _ (st : model.Store) (t : ℕ) (os vs : List ℕ) (k : ℕ) where
   none_left : length os ≤ k → writes st t (paired (drop k os) (drop k vs)) ≡ st
   none_left h = rw (drop_of_length-le os h)
 
+-- the k-th object and value
+pub record Turn (os vs : List ℕ) (k o v : ℕ) : Type 0 where
+  pub objects_left : k < length os
+  pub values_left : k < length vs
+  pub object_is : o ≡ get_or os k 0
+  pub value_is : v ≡ get_or vs k 0
+
 -- ---- what holds before the k-th write, in a store that was s₀ before the first
 pub record Written (t : ℕ) (os vs : List ℕ) (s₀ s : Store) (index : List ℕ) (k : ℕ) : Type 0 where
+  pub pending_rows : length (pendings s.written.pending) ≡ 128
   pub counted : Counted s.heads
   pub indexed : Indexed index (entries s)
   pub untouched : Untouched s₀ s
@@ -63,48 +71,53 @@ stamped s t = record {
   heads = record { pending = s.heads.pending; past = s.heads.past; snapshots = s.heads.snapshots; copies = s.heads.copies; horizon = s.heads.horizon; last = t };
 }
 
-module _ (s₀ : Store) (t : ℕ) (os vs index₀ : List ℕ) (r : ReadyAnew s₀ os index₀) where
-  pub written_start : Written t os vs s₀ (stamped s₀ t) index₀ 0
-  unfolding last_at
-  written_start =
-      let c = r.counted in
-      record {
-        counted = record { pending_count = c.pending_count; past_count = c.past_count; snapshot_count = c.snapshot_count; copy_count = c.copy_count };
-        indexed = r.indexed;
-        untouched = record { disk = refl; dated = refl; snapshots = refl; copies = refl; copied = refl; snapshot_count = refl; copy_count = refl };
-        left = refl;
-      }
+pub written_start : (t : ℕ) (vs : List ℕ) {s : Store} {os index : List ℕ} → ReadyAnew s os index → length (pendings s.written.pending) ≡ 128 → Written t os vs s (stamped s t) index 0
+unfolding last_at
+written_start t vs r p =
+    let c = r.counted in
+    record {
+      pending_rows = p;
+      counted = record { pending_count = c.pending_count; past_count = c.past_count; snapshot_count = c.snapshot_count; copy_count = c.copy_count };
+      indexed = r.indexed;
+      untouched = record { disk = refl; dated = refl; snapshots = refl; copies = refl; copied = refl; snapshot_count = refl; copy_count = refl };
+      left = refl;
+    }
 
-  module _ (s : Store) (index : List ℕ) (k : ℕ) (w : Written t os vs s₀ s index k) where
+module _ {t : ℕ} {os vs : List ℕ} {s₀ s : Store} {index : List ℕ} {k : ℕ} (w : Written t os vs s₀ s index k) where
+  pub written_end : length os ≤ k → AppliedAnew s₀ s t (paired os vs)
+  written_end b = record { contains = sym (none_left (stored s) t os vs k b) ∙ w.left; counted = w.counted; untouched = w.untouched }
+
+  module _ {index₀ : List ℕ} (r : ReadyAnew s₀ os index₀) where
     pub written_sound : Sound s
     written_sound =
         let u = w.untouched in
-        record { counted = w.counted; rising = subst (λ n. rising_from 0 (take n s.snapshots) ≡ true) (sym u.snapshot_count) (subst (λ l. rising_from 0 (take s₀.heads.snapshots l) ≡ true) (sym u.snapshots) r.rising) }
+        record {
+          counted = w.counted;
+          rising = subst (λ n. rising_from 0 (take n s.snapshots) ≡ true) (sym u.snapshot_count) (subst (λ l. rising_from 0 (take s₀.heads.snapshots l) ≡ true) (sym u.snapshots) r.rising);
+        }
 
-    module _ (o v : ℕ) (b : k < length os) (l : k < length vs) (e : o ≡ get_or os k 0) (f : v ≡ get_or vs k 0) where
-      pub written_room : Room (commit_store (stored s₀) t (paired os vs)) → Room (write_one (stored s) t o v)
-      written_room q = rw (e, f) (room_left (stored s) t os vs k b l w.left q)
-
+    -- the k-th write
+    module _ {o v : ℕ} (p : Turn os vs k o v) where
       pub object_low : o < 512
-      object_low = rw e (low os r.in_range k b)
+      object_low = rw p.object_is (low os r.in_range k p.objects_left)
 
-      module _ (s' : Store) (q : WroteAnew s s' t o v) where
+      pub written_room : Room (commit_store (stored s₀) t (paired os vs)) → Room (write_one (stored s) t o v)
+      written_room q = rw (p.object_is, p.value_is) (room_left (stored s) t os vs k p.objects_left p.values_left w.left q)
+
+      module _ {s' : Store} (q : WroteAnew s s' t o v) where
         next : {index' : List ℕ} → Indexed index' (put o t v (entries s)) → Written t os vs s₀ s' index' (k + 1)
         next x = record {
+          pending_rows = q.pending_rows;
           counted = q.counted;
           indexed = rw q.entered x;
           untouched = untouched_both w.untouched q.untouched;
-          left = rw q.contains (rw (e, f) (sym (turn (stored s) t os vs k b l)) ∙ w.left);
+          left = rw q.contains (rw (p.object_is, p.value_is) (sym (turn (stored s) t os vs k p.objects_left p.values_left)) ∙ w.left);
         }
 
-        pub written_over : (row : ℕ) → find_pending o (entries s) ≡ Some row → Written t os vs s₀ s' index (k + 1)
-        written_over row g = next (indexed_over o t v (entries s) w.indexed row g)
+        pub written_over : {row : ℕ} → find_pending o (entries s) ≡ Some row → Written t os vs s₀ s' index (k + 1)
+        written_over {row} g = next (indexed_over o t v (entries s) w.indexed row g)
 
-        pub written_new : length (pendings s.written.pending) ≡ 128 → find_pending o (entries s) ≡ None → Room (commit_store (stored s₀) t (paired os vs))
-            → Written t os vs s₀ s' (set index o s.heads.pending) (k + 1)
-        written_new p g d =
-            let n = new_room s p w.counted t o v g (written_room d) in
+        pub written_new : find_pending o (entries s) ≡ None → Room (commit_store (stored s₀) t (paired os vs)) → Written t os vs s₀ s' (set index o s.heads.pending) (k + 1)
+        written_new g d =
+            let n = new_room s w.pending_rows w.counted t o v g (written_room d) in
             next (indexed_new o t v (pendings s.written.pending) s.heads.pending w.indexed (omega arith) n g object_low)
-
-    pub written_end : length os ≤ k → AppliedAnew s₀ s t (paired os vs)
-    written_end b = record { contains = sym (none_left (stored s) t os vs k b) ∙ w.left; counted = w.counted; untouched = w.untouched }

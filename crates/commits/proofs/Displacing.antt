@@ -33,15 +33,15 @@ pub displaced_is : (L : Past → Bool) (x : Past) (r : Option Past) → MatchOpt
 displaced_is L x (Some q) e = rw (← e.0) (sym e.1)
 displaced_is L x None e = sym e
 
+pub few : (s : Store) → Counted s.heads → length (entries s) ≤ 128
+few s c = simp length-take (omega arith)
+
 module _ (s : Store) (p : length (pendings s.written.pending) ≡ 128) (c : Counted s.heads) where
   pub as_entries : (stored s).pending ≡ entries s
   as_entries = pending_taken s.written.pending s.heads p c
 
   pub in_table : s.heads.pending ≤ length (pendings s.written.pending)
   in_table = omega arith
-
-  pub few : length (entries s) ≤ 128
-  few = simp length-take (omega arith)
 
   module _ (o row : ℕ) (f : find_pending o (entries s) ≡ Some row) where
     pub entry_at : lookup o (stored s).pending ≡ some (pending_at (pendings s.written.pending) row)

@@ -64,6 +64,7 @@ module _ (s : Store) (p : length (pendings s.written.pending) ≡ 128) (c : Coun
           let d : displaced (lookup o (stored s).pending) (stored s) o t ≡ joined s (value_at s row o t) = rw (entry_at s p c o row f) in
           record {
             contains = rw (e, d, g);
+            pending_rows = l;
             entered = over_entries;
             counted = record { pending_count = c.pending_count; past_count = m; snapshot_count = c.snapshot_count; copy_count = c.copy_count };
             untouched = record { disk = refl; dated = refl; snapshots = refl; copies = refl; copied = refl; snapshot_count = refl; copy_count = refl };
@@ -97,6 +98,7 @@ module _ (s : Store) (p : length (pendings s.written.pending) ≡ 128) (c : Coun
         let d : displaced (lookup o (stored s).pending) (stored s) o t ≡ (stored s).past = rw (none_at s p c o f) in
         record {
           contains = rw (e, d);
+          pending_rows = l;
           entered = a;
           counted = record { pending_count = omega arith; past_count = c.past_count; snapshot_count = c.snapshot_count; copy_count = c.copy_count };
           untouched = record { disk = refl; dated = refl; snapshots = refl; copies = refl; copied = refl; snapshot_count = refl; copy_count = refl };

@@ -136,6 +136,7 @@ pub record AddedAnew (store store' : Store) (q : Past) : Type 0 where
 -- one write
 pub record WroteAnew (store store' : Store) (t o v : ℕ) : Type 0 where
   pub contains : stored store' ≡ write_one (stored store) t o v
+  pub pending_rows : length (pendings store'.written.pending) ≡ 128
   pub entered : entries store' ≡ put o t v (entries store)
   pub counted : Counted store'.heads
   pub untouched : Untouched store store'

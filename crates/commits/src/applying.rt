@@ -72,6 +72,7 @@ pub fn apply_commit_anew(
     ensures applied { AppliedAnew store.old store.new t (paired objects.now values.now) }
     ensures indexed { Indexed index.new (take store.new.heads.pending (pendings store.new.written.pending)) }
 {
+    rows(&store.written);
     store.heads.last = t;
     for (object, value) in objects.iter().zip(values) {
         match row_of(index, *object) {

@@ -20,7 +20,7 @@ pub displaced-requires : goal.displaced-requires
 displaced-requires c =
     let s = c.args.store.now in
     let r = c.requires in
-    let f = sym (c.in-Some.ensures (entries s) (few s c.rows.ensures.0 r.counted) r.indexed) in
+    let f = sym (c.in-Some.ensures (entries s) (few s r.counted) r.indexed) in
     (record { counted = r.counted; rising = r.rising }, row_low s c.rows.ensures.0 r.counted (get_or c.args.objects.now c.loop-object.object-index 0) c.in-Some.row f)
 
 pub loop-object-preserved : goal.loop-object-preserved
@@ -36,7 +36,7 @@ loop-object-preserved c =
     let l = c.loop-object-test.true in
     elim c.match-row_of.branch [
       in-Some+then-is_some w ↦
-      let f = sym (w.in-Some.ensures (entries s) (few s p r.counted) r.indexed) in
+      let f = sym (w.in-Some.ensures (entries s) (few s r.counted) r.indexed) in
       let b : w.is_some.result ≡ live_in (stored s) (value_at s w.in-Some.row o c.args.t) = w.is_some.ensures ∙ displaced_is (live_in (stored s)) (value_at s w.in-Some.row o c.args.t) w.displaced.result w.displaced.ensures in
       record {
         few_entries = omega arith;
@@ -45,7 +45,7 @@ loop-object-preserved c =
         old = counts_by _ os k v.rows i.old 0 l (displaces_at s p r.counted o w.in-Some.row f c.args.t b) (rw w.if-is_some.true w.rows-is);
       }
       | in-Some+else-is_some w ↦
-      let f = sym (w.in-Some.ensures (entries s) (few s p r.counted) r.indexed) in
+      let f = sym (w.in-Some.ensures (entries s) (few s r.counted) r.indexed) in
       let b : w.is_some.result ≡ live_in (stored s) (value_at s w.in-Some.row o c.args.t) = w.is_some.ensures ∙ displaced_is (live_in (stored s)) (value_at s w.in-Some.row o c.args.t) w.displaced.result w.displaced.ensures in
       record {
         few_entries = omega arith;
@@ -54,7 +54,7 @@ loop-object-preserved c =
         old = counts_by _ os k v.rows i.old 0 l (displaces_at s p r.counted o w.in-Some.row f c.args.t b) (rw w.if-is_some.false (omega arith));
       }
       | in-None w ↦
-      let f = sym (w.in-None.ensures (entries s) (few s p r.counted) r.indexed) in
+      let f = sym (w.in-None.ensures (entries s) (few s r.counted) r.indexed) in
       record {
         few_entries = omega arith;
         few_rows = omega arith;
