@@ -15,7 +15,7 @@ use Rattle.tables.specs.declared.Store.{Store}
 use Rattle.tables.specs.Rows.{pendings}
 use Rattle.tables.specs.Lookups.{find_pending, Indexed}
 use Rattle.tables.specs.Contents.{stored, Counted}
-use Rattle.commits.specs.Promises.{ReadyAnew, Room, AppliedAnew, WroteAnew, Untouched, Sound, entries}
+use Rattle.commits.specs.Promises.{ReadyAnew, Room, AppliedAnew, WroteAnew, Untouched, Sound, entries, stamped}
 use Rattle.commits.proofs.Growth.{all_grown}
 use Rattle.commits.proofs.Finding.{indexed_over, indexed_new}
 use Rattle.commits.proofs.Distinct.{low}
@@ -60,15 +60,6 @@ untouched_both u v = record {
   copied = v.copied ∙ u.copied;
   snapshot_count = v.snapshot_count ∙ u.snapshot_count;
   copy_count = v.copy_count ∙ u.copy_count;
-}
-
-abbrev stamped : Store → ℕ → Store
-stamped s t = record {
-  written = s.written;
-  snapshots = s.snapshots;
-  copies = s.copies;
-  copied = s.copied;
-  heads = record { pending = s.heads.pending; past = s.heads.past; snapshots = s.heads.snapshots; copies = s.heads.copies; horizon = s.heads.horizon; last = t };
 }
 
 pub written_start : (t : ℕ) (vs : List ℕ) {s : Store} {os index : List ℕ} → ReadyAnew s os index → length (pendings s.written.pending) ≡ 128 → Written t os vs s (stamped s t) index 0

@@ -1,5 +1,5 @@
 -- What the judge and the writer of a commit ask and promise. The tables that a function isn't lent may be any.
-use Rattle.std.specs.Prelude.{ℕ, ◌≤◌, ◌≡◌, true, false, List, [], length, take, ltb}
+use Rattle.std.specs.Prelude.{ℕ, ◌≤◌, ◌≡◌, true, false, List, [], ◌∷◌, length, take, ltb}
 use Rattle.model.specs.declared.Pending.{Pending}
 use Rattle.model.specs.declared.Past.{Past}
 use Rattle.model.specs.Lists.{all_b, twice_b, rising_from, add_if}
@@ -140,3 +140,19 @@ pub record WroteAnew (store store' : Store) (t o v : ℕ) : Type 0 where
   pub entered : entries store' ≡ put o t v (entries store)
   pub counted : Counted store'.heads
   pub untouched : Untouched store store'
+
+-- a new entry for each write
+abbrev pub opened_all : ℕ → List ℕ → List ℕ → List Pending
+opened_all t [] vs = []
+opened_all t (o ∷ os) [] = []
+opened_all t (o ∷ os) (v ∷ vs) = record { object = o; first = t; latest = t; value = v } ∷ opened_all t os vs
+
+-- another last commit
+abbrev pub stamped : Store → ℕ → Store
+stamped s t = record {
+  written = s.written;
+  snapshots = s.snapshots;
+  copies = s.copies;
+  copied = s.copied;
+  heads = record { pending = s.heads.pending; past = s.heads.past; snapshots = s.heads.snapshots; copies = s.heads.copies; horizon = s.heads.horizon; last = t };
+}

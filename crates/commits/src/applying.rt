@@ -1,15 +1,15 @@
 // A commit that the judge has accepted, written to the tables.
-ghost use Rattle.std.specs.Prelude.{◌≡◌, false, List, ℕ, ◌≤◌, ◌<◌, length, take, Some, None};
+ghost use Rattle.std.specs.Prelude.{◌≡◌, false, List, [], ℕ, ◌≤◌, ◌<◌, length, take, Some, None};
 ghost use Rattle.model.specs.Lists.{twice_b};
 ghost use Rattle.model.specs.Changes.{paired, write_one, commit_store};
-ghost use Rattle.tables.specs.Rows.{pendings};
+ghost use Rattle.tables.specs.Rows.{pending_of, pendings, up_to};
 ghost use Rattle.tables.specs.Lookups.{find_pending, Indexed};
 ghost use Rattle.tables.specs.Contents.{stored, Counted};
-ghost use Rattle.commits.specs.Promises.{ReadyAnew, Room, AppliedAnew, Sound, entries, joined, value_at, AddedAnew, WroteAnew};
+ghost use Rattle.commits.specs.Promises.{ReadyAnew, Room, AppliedAnew, Sound, entries, joined, value_at, AddedAnew, WroteAnew, opened_all};
 
 use crate::judging::{displaced, row_of, rows};
 use model::Pending;
-use tables::{Index, Store};
+use tables::{Index, PendingTable, Store};
 
 // What a write at t displaces in a row goes to the past, if it is live.
 fn add_displaced(store: &mut Store, row: usize, object: u64, t: u64)
@@ -85,6 +85,22 @@ pub fn apply_commit_anew(
     }
 }
 
+// The entries of writes that are all new, in the first rows.
+fn enter(pending: &mut PendingTable, t: u64, objects: &[u64], values: &[u64])
+    requires { (length objects.now ≤ 16) × (length values.now ≡ length objects.now) }
+    ensures { up_to (pending_of []) (length objects.now) (pendings pending.new) ≡ opened_all t objects.now values.now }
+{
+    for (k, object) in objects.iter().enumerate() {
+        let new = Pending {
+            object: *object,
+            first: t,
+            latest: t,
+            value: values[k],
+        };
+        tables::put_pending(pending, k, new);
+    }
+}
+
 // The writes of a commit where no entry is pending: each a new one.
 // Kept: objects and values are two lists, as the C interface lends them.
 pub fn add_all_anew(store: &mut Store, t: u64, objects: &[u64], values: &[u64])
@@ -93,16 +109,7 @@ pub fn add_all_anew(store: &mut Store, t: u64, objects: &[u64], values: &[u64])
     ensures applied { AppliedAnew store.old store.new t (paired objects.now values.now) }
     ensures past_kept { (store.new.written.past ≡ store.old.written.past) × (store.new.heads.past ≡ store.old.heads.past) }
 {
-    rows(&store.written);
-    for (k, (object, value)) in objects.iter().zip(values).enumerate() {
-        let new = Pending {
-            object: *object,
-            first: t,
-            latest: t,
-            value: *value,
-        };
-        tables::put_pending(&mut store.written.pending, k, new);
-    }
+    enter(&mut store.written.pending, t, objects, values);
     store.heads.pending = objects.len();
     store.heads.last = t;
 }
