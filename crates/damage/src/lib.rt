@@ -6,10 +6,10 @@ ghost use Rattle.model.specs.Lists.{either, any_b, twice_b};
 ghost use Rattle.model.specs.Damage as model;
 ghost use Rattle.tables.specs.Rows.{pendings, pasts, copy_heads, copies_of};
 ghost use Rattle.tables.specs.Lookups.{Indexed};
-ghost use Rattle.tables.specs.Contents.{contents};
-ghost use Rattle.damage.specs.Sifted.{Sifted};
+ghost use Rattle.tables.specs.Contents.{contents, stored};
+ghost use Rattle.damage.specs.Sifted.{Sifted, SiftedAnew};
 
-use tables::{CopyTable, Heads, Index, PastTable, PendingTable, Snapshots};
+use tables::{CopyTable, Heads, Index, PastTable, PendingTable, Snapshots, Store};
 
 // A count is over its limit.
 fn overfull(h: Heads) -> bool
@@ -29,7 +29,7 @@ fn overfull(h: Heads) -> bool
 
 // An object number is out of range. A limit that is a power of two is kept by all numbers just when it is kept by their join.
 fn pending_out(t: &PendingTable, n: usize) -> bool
-    requires { (n ≤ 128) × (length (pendings t.now) ≡ 128) }
+    requires { n ≤ 128 }
     ensures { result ≡ any_b (λ e. leb 512 e.object) (take n (pendings t.now)) }
 {
     let mut objects: u64 = 0;
@@ -43,7 +43,7 @@ fn pending_out(t: &PendingTable, n: usize) -> bool
 }
 
 fn past_out(t: &PastTable, n: usize) -> bool
-    requires { (n ≤ 256) × (length (pasts t.now) ≡ 256) }
+    requires { n ≤ 256 }
     ensures { result ≡ any_b (λ q. leb 512 q.object) (take n (pasts t.now)) }
 {
     let mut all: u64 = 0;
@@ -58,7 +58,7 @@ fn past_out(t: &PastTable, n: usize) -> bool
 
 // A page number is out of range.
 fn copies_out(t: &CopyTable, n: usize) -> bool
-    requires { (n ≤ 128) × (length (copy_heads t.now) ≡ 128) }
+    requires { n ≤ 128 }
     ensures { (words : List ℕ) → result ≡ any_b (λ c. leb 32 c.page) (take n (copies_of (copy_heads t.now) words)) }
 {
     let mut pages: u64 = 0;
@@ -79,7 +79,6 @@ pub fn out_of_range(
     copies: &CopyTable,
     h: Heads,
 ) -> bool
-    requires { (length (pendings pending.now) ≡ 128) × (length (pasts past.now) ≡ 256) × (length snapshots.now ≡ 64) × (length (copy_heads copies.now) ≡ 128) }
     ensures { Sifted result pending.now past.now snapshots.now copies.now h }
 {
     if overfull(h) {
@@ -102,7 +101,7 @@ pub fn out_of_range(
 // Two of the entries are of one object; where none are, the index tells the row of each object's entry.
 // No entry ends the loop early: fresh stays 128 until an object comes that has a row already.
 pub fn met_again(t: &PendingTable, n: usize, index: &mut Index) -> bool
-    requires { (n ≤ 128) × (length (pendings t.now) ≡ 128) × (any_b (λ e. leb 512 e.object) (take n (pendings t.now)) ≡ false) × (length index.old ≡ 512) × ((o : ℕ) → get_or index.old o 128 ≡ 128) }
+    requires { (n ≤ 128) × (any_b (λ e. leb 512 e.object) (take n (pendings t.now)) ≡ false) × ((o : ℕ) → get_or index.old o 128 ≡ 128) }
     ensures { (result ≡ twice_b (map (λ e. e.object) (take n (pendings t.now)))) × (result ≡ false → Indexed index.new (take n (pendings t.now))) }
 {
     let mut fresh: u8 = 128;
@@ -126,7 +125,7 @@ pub fn damaged_or_indexed(
     h: Heads,
     index: &mut Index,
 ) -> bool
-    requires { (length (pendings pending.now) ≡ 128) × (length (pasts past.now) ≡ 256) × (length snapshots.now ≡ 64) × (length (copy_heads copies.now) ≡ 128) × (length index.old ≡ 512) × ((o : ℕ) → get_or index.old o 128 ≡ 128) }
+    requires { (o : ℕ) → get_or index.old o 128 ≡ 128 }
     ensures { ((values stamps copied : List ℕ) → result ≡ model.damaged (contents values stamps pending.now past.now snapshots.now copies.now copied h)) × (result ≡ false → Indexed index.new (take h.pending (pendings pending.now))) }
 {
     if out_of_range(pending, past, snapshots, copies, h) {
@@ -142,7 +141,6 @@ pub fn damaged(
     copies: &CopyTable,
     h: Heads,
 ) -> bool
-    requires { (length (pendings pending.now) ≡ 128) × (length (pasts past.now) ≡ 256) × (length snapshots.now ≡ 64) × (length (copy_heads copies.now) ≡ 128) }
     ensures { (values stamps copied : List ℕ) → result ≡ model.damaged (contents values stamps pending.now past.now snapshots.now copies.now copied h) }
 {
     if out_of_range(pending, past, snapshots, copies, h) {
@@ -154,4 +152,44 @@ pub fn damaged(
     }
     let mut index = [128u8; 512];
     met_again(pending, h.pending, &mut index)
+}
+
+// A count or a number is out of its range, or the snapshots don't ascend to the horizon: all of Damaged but two entries of one object.
+pub fn out_of_range_anew(store: &Store) -> bool
+    ensures { SiftedAnew result store.now }
+{
+    out_of_range(
+        &store.written.pending,
+        &store.written.past,
+        &store.snapshots,
+        &store.copies,
+        store.heads,
+    )
+}
+
+// Damaged; where it is not, the index tells the row of each object's entry. It comes with 128 for every object.
+pub fn damaged_or_indexed_anew(store: &Store, index: &mut Index) -> bool
+    requires { (o : ℕ) → get_or index.old o 128 ≡ 128 }
+    ensures { (result ≡ model.damaged (stored store.now)) × (result ≡ false → Indexed index.new (take store.now.heads.pending (pendings store.now.written.pending))) }
+{
+    damaged_or_indexed(
+        &store.written.pending,
+        &store.written.past,
+        &store.snapshots,
+        &store.copies,
+        store.heads,
+        index,
+    )
+}
+
+pub fn damaged_anew(store: &Store) -> bool
+    ensures { result ≡ model.damaged (stored store.now) }
+{
+    damaged(
+        &store.written.pending,
+        &store.written.past,
+        &store.snapshots,
+        &store.copies,
+        store.heads,
+    )
 }

@@ -11,7 +11,8 @@ use Rattle.model.specs.Damage.{damaged}
 use Rattle.model.specs.Reads.{lag_of, standing}
 use Rattle.tables.specs.declared.Heads.{Heads}
 use Rattle.tables.specs.Rows.{pending_of, past_of, pendings, pasts, copy_heads, copies_of}
-use Rattle.tables.specs.Contents.{contents}
+use Rattle.tables.specs.declared.Store as held
+use Rattle.tables.specs.Contents.{contents, stored}
 use Rattle.tables.proofs.Copies.{no_copy}
 use Rattle.tables.proofs.Counts.{up_to_length}
 
@@ -41,3 +42,21 @@ stood_whole values stamps pending past snapshots copies copied h d e =
       e,
     )
     (refl, refl)
+
+-- ---- of a store
+pub figures_none : (st : Store) → damaged st ≡ true → standing st ≡ record { answer = Damaged; figures = zeros }
+unfolding standing
+figures_none st d = rw d refl
+
+pub figures_told : (s : held.Store) → damaged (stored s) ≡ false → {z : ℤ} → z ≡ lag_of (stored s) → standing (stored s) ≡ record { answer = Done 0; figures = figured s.heads z }
+unfolding standing
+figures_told s d e =
+    rw (
+      d,
+      up_to_length (pending_of []) s.heads.pending (pendings s.written.pending),
+      up_to_length (past_of []) s.heads.past (pasts s.written.past),
+      up_to_length 0 s.heads.snapshots s.snapshots,
+      up_to_length no_copy s.heads.copies (copies_of (copy_heads s.copies) s.copied),
+      ← e,
+    )
+    refl

@@ -1,10 +1,10 @@
 -- Known: none but zeros where the tables are damaged, else the heads, and the snapshots within their count, put one by one into an array of zeros.
-use Prim.Native.Nat.{ℕ, suc, ◌+◌, ◌-◌, ◌<◌}
+use Prim.Native.Nat.{ℕ, suc, ◌+◌, ◌-◌, ◌<◌, ◌≤◌}
 use native.Mathlib.Numerals.{add-one}
 use native.Mathlib.Omega.{arith}
 use mathlib.Core.Path.{◌≡◌, refl, ap, sym, ◌∙◌}
 use mathlib.Core.Bool.{true, false}
-use mathlib.Core.List.{List, ◌++◌}
+use mathlib.Core.List.{List, [], ◌++◌}
 use lib.ListN.{length, take, get_or, set, replicate}
 use lib.Seq.{take-suc, append_snoc, set_at, length-take-le}
 use Rattle.model.specs.declared.Answer.TheVariants.{Done, Damaged}
@@ -12,9 +12,10 @@ use Rattle.model.specs.Store.{Store}
 use Rattle.model.specs.Damage.{damaged}
 use Rattle.model.specs.Reads.{known}
 use Rattle.tables.specs.declared.Heads.{Heads}
-use Rattle.tables.specs.Contents.{contents, Laid, Counted}
+use Rattle.tables.specs.declared.Store as held
+use Rattle.tables.specs.Contents.{contents, stored, Laid, Counted}
 use Rattle.tables.proofs.Cases.{by_test, clash}
-use Rattle.tables.proofs.Counts.{up_to_length}
+use Rattle.tables.proofs.Counts.{up_to_length, up_to_take}
 use Rattle.damage.proofs.Laws.{over_count, counted, damaged_over}
 use Rattle.reads.specs.Knows.{padded, Knows}
 use Rattle.reads.proofs.Undamaged as undamaged
@@ -57,3 +58,19 @@ module _ (values stamps : List ℕ) (pending past : List (List ℕ)) (snapshots 
         counted = sym (up_to_length 0 h.snapshots snapshots);
         listed = e ∙ ap padded (sym (undamaged.known l in_range));
       })
+
+-- ---- of a store
+pub told_none : (st : Store) → damaged st ≡ true → known st ≡ record { answer = Damaged; horizon = 0; last = 0; snapshots = [] }
+unfolding known
+told_none st d = rw d refl
+
+module _ (s : held.Store) (d : damaged (stored s) ≡ false) where
+  pub counts_in : Counted s.heads
+  counts_in = in_range s.written.disk s.written.dated s.written.pending s.written.past s.snapshots s.copies s.copied s.heads d
+
+  pub told_all : length s.snapshots ≡ 64
+      → known (stored s) ≡ record { answer = Done 0; horizon = s.heads.horizon; last = s.heads.last; snapshots = take s.heads.snapshots s.snapshots }
+  unfolding known
+  told_all l =
+      let m : s.heads.snapshots ≤ length s.snapshots = omega (arith, counts_in.snapshot_count) in
+      rw (d, up_to_take 0 s.heads.snapshots s.snapshots m) refl

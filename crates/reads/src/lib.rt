@@ -9,13 +9,13 @@ ghost use Rattle.model.specs.Reads as model;
 ghost use Rattle.model.specs.Reads.{tick_of};
 ghost use Rattle.tables.specs.Rows.{pendings, copy_heads};
 ghost use Rattle.tables.specs.Lookups.{Indexed};
-ghost use Rattle.tables.specs.Contents.{contents, Laid};
+ghost use Rattle.tables.specs.Contents.{contents, stored, Laid};
 ghost use Rattle.views.specs.Views.{Lookable};
 ghost use Rattle.reads.specs.Read.{Read};
-ghost use Rattle.reads.specs.Knows.{padded, Knows};
+ghost use Rattle.reads.specs.Knows.{padded, Knows, KnowsAnew, StandsAnew};
 
 use model::{Answer, Figures};
-use tables::{Copied, CopyTable, Disk, Heads, PastTable, PendingTable, Snapshots};
+use tables::{Copied, CopyTable, Disk, Heads, PastTable, PendingTable, Snapshots, Store};
 
 // Standing's answer, and its five figures.
 #[derive(Clone, Copy)]
@@ -32,6 +32,14 @@ pub struct Knowledge {
     pub last: u64,
     pub count: u64,
     pub stamps: [u64; 64],
+}
+
+// The horizon, the last commit, and every known snapshot.
+#[derive(Clone, Copy)]
+pub struct KnowledgeAnew<'a> {
+    pub horizon: u64,
+    pub last: u64,
+    pub snapshots: &'a [u64],
 }
 
 // The page as of s: the serving copy's words, else what the tables show. As in views::look_at, any list may stand for the stamps.
@@ -311,4 +319,103 @@ pub fn known(
         count: h.snapshots as u64,
         stamps,
     }
+}
+
+// The page as of the largest known snapshot at or before a time.
+pub fn snapshot_read_anew(store: &Store, time: u64, page: u64, buffer: &mut [u64]) -> Answer
+    ensures { Read (model.snapshot_read (stored store.now) time page buffer.old) result buffer.new }
+{
+    snapshot_read(
+        &store.written.disk,
+        &store.written.dated,
+        &store.written.pending,
+        &store.written.past,
+        &store.snapshots,
+        &store.copies,
+        &store.copied,
+        store.heads,
+        time,
+        page,
+        buffer,
+    )
+}
+
+// The same at a clock tick.
+pub fn clock_read_anew(store: &Store, tick: u64, page: u64, buffer: &mut [u64]) -> Answer
+    ensures { Read (model.clock_read (stored store.now) tick page buffer.old) result buffer.new }
+{
+    clock_read(
+        &store.written.disk,
+        &store.written.dated,
+        &store.written.pending,
+        &store.written.past,
+        &store.snapshots,
+        &store.copies,
+        &store.copied,
+        store.heads,
+        tick,
+        page,
+        buffer,
+    )
+}
+
+// The page as it is now.
+pub fn current_read_anew(store: &Store, page: u64, buffer: &mut [u64]) -> Answer
+    ensures { Read (model.current_read (stored store.now) page buffer.old) result buffer.new }
+{
+    current_read(
+        &store.written.disk,
+        &store.written.dated,
+        &store.written.pending,
+        &store.written.past,
+        &store.snapshots,
+        &store.copies,
+        &store.copied,
+        store.heads,
+        page,
+        buffer,
+    )
+}
+
+// The numbers of rows in the tables, and the lag; none of a damaged store.
+pub fn standing_anew(store: &Store) -> Option<Figures>
+    ensures { StandsAnew (model.standing (stored store.now)) result }
+{
+    if damage::damaged_anew(store) {
+        return None;
+    }
+    let h = store.heads;
+    Some(Figures {
+        pending: h.pending as u64,
+        past: h.past as u64,
+        snapshots: h.snapshots as u64,
+        copies: h.copies as u64,
+        lag: lag(h.last, h.horizon),
+    })
+}
+
+// The horizon, the last commit, and every known snapshot; none of a damaged store.
+pub fn known_anew(store: &Store) -> Option<KnowledgeAnew<'_>>
+    ensures { KnowsAnew (model.known (stored store.now)) result }
+{
+    if damage::damaged_anew(store) {
+        return None;
+    }
+    let h = store.heads;
+    let snapshots = &store.snapshots[..];
+    Some(KnowledgeAnew {
+        horizon: h.horizon,
+        last: h.last,
+        snapshots: &snapshots[..h.snapshots],
+    })
+}
+
+// Snapshots, and zeros behind them up to as many as a store has at most.
+pub fn padded(stamps: &[u64]) -> [u64; 64]
+    requires { length stamps.now ≤ 64 }
+    ensures { result ≡ padded stamps.now }
+{
+    let mut all = [0u64; 64];
+    all[..stamps.len()].copy_from_slice(stamps);
+    all
 }

@@ -3,11 +3,13 @@ use Prim.Native.Nat.{ℕ, ◌+◌, ◌≤◌}
 use mathlib.Core.Path.{◌≡◌, ◌∙◌, sym, ap}
 use mathlib.Core.List.{List}
 use native.Mathlib.Omega.{arith}
+use borrow.Author.Rules.{rules}
 use lib.Bits.{bit_or}
 use lib.ListN.{length}
 use Rattle.model.specs.Store.{Copy}
 use Rattle.tables.specs.Rows.{copy_heads, copies_of}
 use Rattle.tables.proofs.Copies.{no_copy, copy_of, copies_of_length, copy_page}
+use Rattle.tables.proofs.Rows.{copies_length}
 use Rattle.damage.proofs.Joins.{joined, join_more}
 use Rattle.damage.proofs.copies_out.Invariants.{page_of}
 use Rattle.damage.proofs.copies_out.Goals as goal
@@ -15,7 +17,7 @@ use Rattle.damage.proofs.copies_out.Goals.{After-copy_at-c, Start}
 
 -- there are as many copies as heads
 rows : (c : Start) (words : List ℕ) → c.args.n ≤ length (copies_of (copy_heads c.args.t.now) words)
-rows c words = rw copies_of_length (omega arith)
+rows c words = rw copies_of_length (omega (arith, copies_length c.args.t.now 128 (search rules)))
 
 -- a copy's page is its head's
 page : (c : After-copy_at-c) (words : List ℕ)

@@ -3,11 +3,13 @@ use Prim.Native.Nat.{◌<◌}
 use mathlib.Core.Path.{◌≡◌, refl, ◌∙◌, sym, ap}
 use mathlib.Core.Logic.{inl, inr, ⊎_elim}
 use native.Mathlib.Omega.{arith}
+use borrow.Author.Rules.{rules}
 use lib.Bits.{and_le_l, and_le_r}
 use lib.ListN.{length, get_or}
 use borrow.Author.Tests.{lt-ltb, ltb-true, ltb-false}
 use Rattle.rules.proofs.Marks.{again_start, again_met, again_new}
 use Rattle.tables.specs.Rows.{pendings}
+use Rattle.tables.proofs.Rows.{pendings_length}
 use Rattle.damage.proofs.Laws.{Turn, objects_of, objects_length, object_at_lem, object_low}
 use Rattle.tables.proofs.Cases.{by_test}
 use Rattle.tables.proofs.Indexing.{any_default, index_start, row_none, index_more}
@@ -22,18 +24,18 @@ loop-i-init c =
       omega arith,
       inl (
         refl,
-        again_start 128 marks a.index.now (λ o. ap marks (p.4 o)) (objects_of a.n (pendings a.t.now)),
-        index_start a.index.now (pendings a.t.now) p.3 p.4,
+        again_start 128 marks a.index.now (λ o. ap marks (p.2 o)) (objects_of a.n (pendings a.t.now)),
+        index_start a.index.now (pendings a.t.now) (search rules) p.2,
       ),
     )
 
 turn : (c : After-pending_at-e)
     → Turn c.args.n (pendings c.args.t.now) c.loop-i.i c.pending_at-e.result
-turn c = record { rows = omega arith; inside = omega arith; entry = c.pending_at-e.ensures }
+turn c = record { rows = omega (arith, pendings_length c.args.t.now 128 (search rules)); inside = omega arith; entry = c.pending_at-e.ensures }
 
 -- the entry's object has a place in the index
 low : (c : After-pending_at-e) → c.pending_at-e.result.object < 512
-low c = object_low (turn c) c.requires.2
+low c = object_low (turn c) c.requires.1
 
 -- it is the i-th of the objects
 at : (c : After-pending_at-e)
@@ -42,7 +44,7 @@ at c = object_at_lem (turn c)
 
 inside : (c : After-pending_at-e)
     → c.loop-i.i < length (objects_of c.args.n (pendings c.args.t.now))
-inside c = rw (objects_length c.args.n (pendings c.args.t.now) (omega arith)) c.loop-i-test.true
+inside c = rw (objects_length c.args.n (pendings c.args.t.now) (omega (arith, pendings_length c.args.t.now 128 (search rules)))) c.loop-i-test.true
 
 pub bounds-index-object : goal.bounds-index-object
 bounds-index-object c = low (goal.at.bounds-index-object c).After-pending_at-e
@@ -57,6 +59,7 @@ loop-i-preserved c =
     let es = pendings a.t.now in
     let os = objects_of a.n es in
     let o = c.pending_at-e.result.object in
+    let rows : length es ≡ 128 = pendings_length a.t.now 128 (search rules) in
     let row = get_or v.index o 0 in (
       omega arith,
       ⊎_elim

@@ -2,8 +2,10 @@
 use Prim.Native.Nat.{◌+◌}
 use mathlib.Core.Path.{◌∙◌, ap}
 use native.Mathlib.Omega.{arith}
+use borrow.Author.Rules.{rules}
 use lib.Bits.{bit_or}
 use Rattle.tables.specs.Rows.{pasts}
+use Rattle.tables.proofs.Rows.{pasts_length}
 use Rattle.damage.proofs.Joins.{joined, join_more}
 use Rattle.damage.proofs.past_out.Invariants.{object_of}
 use Rattle.damage.proofs.past_out.Goals as goal
@@ -15,6 +17,6 @@ loop-i-preserved c =
     let e = ap (λ row. bit_or v.all row.object) c.past_at-q.ensures in (
       omega arith,
       ap (joined object_of 9 a.n (pasts a.t.now) (v.i + 1)) e
-          ∙ join_more object_of 9 a.n (pasts a.t.now) v.i _ (omega arith) (omega arith) v.all
+          ∙ join_more object_of 9 a.n (pasts a.t.now) v.i _ (omega arith) (omega (arith, pasts_length a.t.now 256 (search rules))) v.all
           ∙ v.invariant.1,
     )

@@ -12,7 +12,7 @@ returns-then-out_of_range c =
 pub met_again-requires : goal.met_again-requires
 met_again-requires c =
     let s = c.out_of_range.ensures in
-    ((s.counted c.if-out_of_range.false).pending_count, c.laid.ensures.pending_rows, s.low c.if-out_of_range.false, refl, blank)
+    ((s.counted c.if-out_of_range.false).pending_count, s.low c.if-out_of_range.false, blank)
 
 -- past the tests of the ranges, damage is two entries of one object
 pub returns-then-met_again : goal.returns-then-met_again

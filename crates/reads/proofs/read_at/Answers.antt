@@ -36,7 +36,7 @@ returns-then-h-lt2 c dated =
 pub met_again-requires : goal.met_again-requires
 met_again-requires c =
     let o = c.out_of_range.ensures in
-    ((o.counted c.if-out_of_range.false).pending_count, c.requires.pending_rows, o.low c.if-out_of_range.false, refl, blank)
+    ((o.counted c.if-out_of_range.false).pending_count, o.low c.if-out_of_range.false, blank)
 
 pub returns-then-met_again : goal.returns-then-met_again
 returns-then-met_again c dated =
