@@ -2,6 +2,7 @@
 use Prim.Native.Nat.{ℕ}
 use mathlib.Core.Path.{◌≡◌, ◌∙◌, sym, ap}
 use mathlib.Core.Bool.{Bool, true, false, not}
+use Rattle.std.specs.Prelude.{Option}
 use mathlib.Core.List.{List}
 use lib.ListN.{get_or}
 use lib.Dec.{leb}
@@ -25,7 +26,7 @@ module _ (h : ℕ) (known : List ℕ) (q : Past) where
     pub live_archived : {b : Bool} → wants_b s 0 q ≡ true → b ≡ leb s (mark cs (page_of q.object)) → not b ≡ live_b h known cs q
     live_archived w f = ap not f ∙ sym (wants_beyond s (mark cs (page_of q.object)) q w) ∙ live_last
 
-  module _ (scope : ℕ) (marks : List ℕ) where
+  module _ (scope : Option ℕ) (marks : List ℕ) where
     pub stays_out : in_scope scope q ≡ false → true ≡ stays_by scope h known marks q
     stays_out e = rw e
 
