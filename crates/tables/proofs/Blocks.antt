@@ -1,6 +1,5 @@
 -- A block of rows of a table, from place j on: those of them that are chosen go to the place at, and the rows behind the block stay.
 --     each_all                   all are chosen where each is
---     packed                     what rows written over others leave
 --     stood                      where all are chosen, they stand there already, if at is j
 --     moved                      copied out, compacted and copied back at another place
 --     turned, over               a compaction by blocks: a block more, and its end
@@ -10,8 +9,7 @@ use mathlib.Core.Bool.{Bool, true, false}
 use mathlib.Core.List.{List, [], ◌∷◌, ◌++◌, map}
 use native.Mathlib.Omega.{arith}
 use lib.ListN.{length, take, drop, get_or, length-drop}
-use Rattle.std.proofs.lemmas.List.Edits.{take-paste, drop-paste}
-use lib.Seq.{length-take-le, drop-drop, take-add, take-length, paste}
+use lib.Seq.{length-take-le, drop-drop, take-add}
 use Rattle.model.specs.declared.Past.{Past}
 use Rattle.model.specs.Lists.{pick, kept, all_b}
 use Rattle.tables.specs.Compaction.{chosen, Compacted}
@@ -50,10 +48,6 @@ chosen_whole (b ∷ bs) (x ∷ xs) = ap (λ (r : List Past). pick b (x ∷ r) r)
 -- rows ws written over those from place at on
 abbrev Over : List Past → ℕ → List Past → List Past → Type 0
 Over ps at ws ts = (take (at + length ws) ts ≡ take at ps ++ ws) × (drop (at + length ws) ts ≡ drop (at + length ws) ps)
-
-pub packed : (ps : List Past) (at : ℕ) (ws : List Past) {ts : List Past} → at + length ws ≤ length ps → ts ≡ paste ps at ws (length ws) → Over ps at ws ts
-packed ps at ws l e =
-    rw e (take-paste ps at ws (length ws) (omega arith) (omega arith) ∙ ap (λ (r : List Past). take at ps ++ r) (take-length ws), drop-paste ps at ws (length ws) (omega arith) (omega arith))
 
 -- what a block leaves: r rows in front, those before at and the chosen ones of the rows from j on, as many as choices
 abbrev Dropped : ℕ → ℕ → List Bool → List Past → List Past → ℕ → Type 0

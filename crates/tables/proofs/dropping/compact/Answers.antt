@@ -11,6 +11,3 @@ loop-i-preserved c =
     let rows = c.args.rows.now in
     let turn = step bs v.i rows v.rows v.k (omega arith) (omega (arith, v.invariant.1, c.requires.0)) v.invariant in
     subst (Compacted bs (v.i + 1) rows _) (sym c.next-k.ensures) turn
-
-pub returns : goal.returns
-returns c = let e : c.loop-i.i ≡ length c.args.stay.now = omega arith in rw e at c.loop-i.invariant

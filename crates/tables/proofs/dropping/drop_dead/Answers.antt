@@ -29,9 +29,6 @@ one c m e =
     subst (λ (k : ℕ). Now c (v.from + k)) e
     (turned f (pasts a.t.now) (pasts v.t) v.at v.from v.invariant.2 c.min-some.result (take c.min-some.result j.result) (pasts d.new.t) d.result n j.ensures d.ensures)
 
-pub loop-from-init : goal.loop-from-init
-loop-from-init c = (omega arith, c.told-t, (omega arith, refl, refl))
-
 pub loop-from-preserved : goal.loop-from-preserved
 loop-from-preserved c = (omega arith, c.drop_some-at.array_long, one (goal.at.loop-from-preserved c).After-drop_some-at 16 (omega (arith, c.min-some.ensures)))
 

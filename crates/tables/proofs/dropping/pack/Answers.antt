@@ -10,7 +10,6 @@ use Rattle.model.specs.declared.Past.{Past}
 use Rattle.tables.specs.Rows.{pasts}
 use Rattle.tables.proofs.Rows.{pasts_length}
 use Rattle.tables.proofs.Compacts.{no_past}
-use Rattle.tables.proofs.Blocks.{packed}
 use Rattle.tables.proofs.dropping.pack.Goals as goal
 
 pub loop-i-preserved : goal.loop-i-preserved
@@ -22,9 +21,3 @@ loop-i-preserved c =
     let l = pasts_length a.t.now 256 (omega arith) in
     c.put_past.ensures ∙ ap (λ (l : List Past). set l (a.at + v.i) (get_or rows v.i no_past)) v.invariant
         ∙ paste-suc ps a.at rows v.i no_past (omega (arith, l)) (omega (arith, l)) ∙ ap (paste ps a.at rows) (sym (add-one v.i))
-
-pub returns : goal.returns
-returns c =
-    let a = c.args in
-    let e : c.loop-i.i ≡ length a.rows.now = omega arith in
-    packed (pasts a.t.now) a.at a.rows.now (omega (arith, pasts_length a.t.now 256 (omega arith))) (rw e at c.loop-i.invariant)

@@ -4,7 +4,7 @@ use borrow.Author.Rules.{rules}
 use Rattle.tables.specs.Rows.{copy_heads}
 use Rattle.tables.proofs.Backward.{Turn}
 use Rattle.tables.proofs.Copies.{rows_turn}
-use Rattle.tables.proofs.Oldest.{held_start, serving_all, held_other, held_early, held_taken, held_kept}
+use Rattle.tables.proofs.Oldest.{held_other, held_early, held_taken, held_kept}
 use Rattle.tables.proofs.lookups.serving.Goals as goal
 use Rattle.tables.proofs.lookups.serving.Goals.{In-loop-i}
 
@@ -27,9 +27,3 @@ loop-i-preserved-else-s-c c =
 pub loop-i-preserved : goal.loop-i-preserved
 loop-i-preserved c =
     held_other (turn (goal.at.loop-i-preserved c).In-loop-i) c.copy_at-c.ensures c.loop-i.invariant c.if-c-page.false
-
-pub loop-i-init : goal.loop-i-init
-loop-i-init c = held_start _ _ _ _
-
-pub returns : goal.returns
-returns c = serving_all c.loop-i.invariant c.loop-i-test.false
