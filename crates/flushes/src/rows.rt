@@ -130,7 +130,7 @@ pub fn drop_rows(
     tables::dropping::drop_dead(
         past,
         n,
-        rule.page,
+        Some(rule.page),
         rule.horizon,
         snapshots,
         rule.known,
