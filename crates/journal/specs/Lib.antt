@@ -1,2 +1,3 @@
 pub mod Heads
+pub mod Kinds
 pub mod Places

@@ -6,6 +6,7 @@ ghost use Rattle.model.specs.Judgement.{objects_shaped, stamps_shaped};
 ghost use Rattle.model.specs.Records.{commit_in, gossip_in, flush_in, checked, decode, step_at};
 ghost use Rattle.journal.specs.Heads.{head_decoded, head_step};
 
+use crate::kind::Kind;
 use crate::place::Place;
 
 #[derive(Clone, Copy, PartialEq, Eq, Debug)]
@@ -124,14 +125,15 @@ fn read_flush(body: &[u8]) -> Option<Record>
     Some(Record::Flush(FlushHead { page }))
 }
 
+#[tactic(auto, unfolding(model::specs::Records::decode))]
 fn read_record(kind: u8, body: &[u8]) -> Option<Record>
     ensures { result ≡ head_decoded (decode (length body.now + 1) kind body.now) }
 {
-    match kind {
-        1 => read_commit(body),
-        2 => read_gossip(body),
-        3 => read_flush(body),
-        _ => None,
+    match Kind::try_from(kind) {
+        Ok(Kind::Commit) => read_commit(body),
+        Ok(Kind::Gossip) => read_gossip(body),
+        Ok(Kind::Flush) => read_flush(body),
+        Err(_) => None,
     }
 }
 
