@@ -5,10 +5,10 @@ use mathlib.Core.Bool.{Bool, true, false}
 use mathlib.Core.List.{List, [], ◌∷◌, ◌++◌, append_assoc, append-nil}
 use native.Mathlib.Numerals.{add-one}
 use native.Mathlib.Omega.{arith}
-use lib.ListN.{length, take, drop, get_or, set}
-use lib.Seq.{take-suc-set, slice-cons, length-take-le, get_or-take, get_or-set_same, get_or-set_other}
-use lib.Dec.{eqb}
-use borrow.Author.Tests.{eqb-true, eqb-false}
+use lib.ListN.{length, take, drop, get_or, set, get_or-append, length-append}
+use lib.Seq.{take-suc-set, slice-cons, length-take-le, get_or-take, get_or-set_same, get_or-set_other, get_or-append_seam, drop-cons}
+use lib.Dec.{eqb, ltb}
+use borrow.Author.Tests.{eqb-true, eqb-false, ltb-true, ltb-false}
 use Rattle.model.specs.Lists.{kept}
 use Rattle.tables.proofs.Cases.{by_test}
 use Rattle.tables.proofs.Searches.{drop_end}
@@ -51,6 +51,32 @@ module _ {A : Type 0} (d : A) (f : A → Bool) (l : List A) (n i : ℕ) (ns : Li
 
   pub number_end : n ≤ i → rows_at d l (take k ns) ≡ W
   number_end h = sym (append-nil _) ∙ (rw (drop_end n l i h) at v)
+
+-- ---- the numbers listed name rows before row i, of the first n
+module _ {A : Type 0} (d : A) (f : A → Bool) (l : List A) (n i : ℕ) (ns : List ℕ) {W : List A} (v : rows_at d l ns ++ kept f (drop i (take n l)) ≡ W) where
+  module _ (h : i < n) (m : n ≤ length l) {x : A} (p : x ≡ get_or l i d) where
+    pub number_more : f x ≡ true → rows_at d l (ns ++ (i ∷ [])) ++ kept f (drop (i + 1) (take n l)) ≡ W
+    number_more e = rw (rows_append d l ns i, append_assoc) (rw (next_row l n i d h m, ap f (sym p) ∙ e) at v)
+
+    pub number_less : f x ≡ false → rows_at d l ns ++ kept f (drop (i + 1) (take n l)) ≡ W
+    number_less e = rw (next_row l n i d h m, ap f (sym p) ∙ e) at v
+
+  pub number_last : n ≤ i → rows_at d l ns ≡ W
+  number_last h = sym (append-nil _) ∙ (rw (drop_end n l i h) at v)
+
+-- a number put behind the others
+pub inside_push : (ns : List ℕ) (i n : ℕ) → ((j : ℕ) → j < length ns → get_or ns j 0 < n) → i < n → (j : ℕ) → j < length (ns ++ (i ∷ [])) → get_or (ns ++ (i ∷ [])) j 0 < n
+inside_push ns i n f h j m =
+    by_test (ltb j (length ns))
+    (λ e. let b = ltb-true j (length ns) e in rw (get_or-append ns (i ∷ []) 0 j b) (f j b))
+    (λ e.
+    let z = ltb-false j (length ns) e in
+    let y : j ≡ length ns = omega (arith, length-append ns (i ∷ [])) in
+    rw (y, get_or-append_seam ns i [] 0) h)
+
+-- the rows from the j-th number on
+pub rows_next : {A : Type 0} (d : A) (l : List A) (ns : List ℕ) (j : ℕ) → j < length ns → rows_at d l (drop j ns) ≡ get_or l (get_or ns j 0) d ∷ rows_at d l (drop (j + 1) ns)
+rows_next d l ns j h = rw (add-one, drop-cons ns j 0 h)
 
 -- ---- the rows that are numbered
 module _ {A : Type 0} {d : A} {f : A → Bool} {l : List A} {n : ℕ} {ns : List ℕ} {k : ℕ} (a : Numbered d f l n ns k) where
