@@ -12,7 +12,7 @@ use borrow.Author.Tests.{eqb-true, eqb-false, ltb-true, ltb-false}
 use Rattle.model.specs.Lists.{kept}
 use Rattle.tables.proofs.Cases.{by_test}
 use Rattle.tables.proofs.Searches.{drop_end}
-use Rattle.shares.specs.Shares.{rows_at, Numbered}
+use Rattle.shares.specs.Shares.{rows_at, Numbered, NumberedAnew}
 
 pub next_row : {A : Type 0} (l : List A) (n i : ℕ) (d : A) → i < n → n ≤ length l → drop i (take n l) ≡ get_or l i d ∷ drop (i + 1) (take n l)
 next_row l n i d h k = rw (add-one, slice-cons i n l d)
@@ -87,3 +87,10 @@ module _ {A : Type 0} {d : A} {f : A → Bool} {l : List A} {n : ℕ} {ns : List
   numbered_row j h e =
       let b : j < length (take k ns) = rw (length-take-le k ns (omega arith)) h in
       e ∙ ap (λ i. get_or l i d) (sym (get_or-take k ns j 0 h)) ∙ sym (rows_row d l (take k ns) j b) ∙ ap (λ r. get_or r j d) a.rows
+
+module _ {A : Type 0} {d : A} {f : A → Bool} {l : List A} {n : ℕ} {ns : List ℕ} (a : NumberedAnew d f l n ns) where
+  pub numbered_count_anew : length ns ≡ length (kept f (take n l))
+  numbered_count_anew = sym (rows_length d l ns) ∙ ap length a.rows
+
+  pub numbered_row_anew : {x : A} (j : ℕ) → j < length ns → x ≡ get_or l (get_or ns j 0) d → x ≡ get_or (kept f (take n l)) j d
+  numbered_row_anew j h e = e ∙ sym (rows_row d l ns j h) ∙ ap (λ r. get_or r j d) a.rows

@@ -10,7 +10,7 @@ use lib.Dec.{eqb, ltb, leb}
 use borrow.Rule.Slice.PartMut.{put_mid, take_put, same_len_mid}
 use borrow.Author.Tests.{ltb-true, ltb-false, lt-leb, le-leb, le-ltb, lt-ltb, eqb-true, eqb-false}
 use Rattle.model.specs.declared.Past.{Past}
-use Rattle.model.specs.Lists.{both, pick, kept}
+use Rattle.model.specs.Lists.{pick}
 use Rattle.model.specs.Store.{page16, object_at, slot_of, in_span, pending_seen, past_seen}
 use Rattle.model.specs.Changes.{of_page}
 use Rattle.tables.specs.declared.Heads.{Heads}

@@ -109,7 +109,7 @@ fn lay_numbered<R: Row>(t: &R::Table, numbers: &[u8], v: ViewAnew, out: &mut [u6
     ensures { out.new ≡ lay (R.shown_b v.as_of) (λ r. slot_of (R.object_of r)) (λ r. part_of_anew v.word (R.seen_of r)) (rows_at R.blank (R.rows t.now) numbers.now) out.old }
 {
     for j in (0..numbers.len()).rev() {
-        let r = R::at(t, numbers[j] as usize);
+        let r = R::at(t, usize::from(numbers[j]));
         let slot = (r.object() % 16) as usize;
         rows::lay_row(r, slot, v, out);
     }

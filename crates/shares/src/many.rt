@@ -190,7 +190,7 @@ fn lay_numbered<R: Row>(
     ensures { (f : ℕ → List ℕ) (w : List ℕ) → Pages f stamps.now at w words.old → Pages (λ s. lay (R.shown_b (Some s)) (λ r. slot_of (R.object_of r)) (λ r. part_of_anew word (R.seen_of r)) (rows_at R.blank (R.rows t.now) numbers.now) (f s)) stamps.now at w words.new }
 {
     for j in (0..numbers.len()).rev() {
-        let r = R::at(t, numbers[j] as usize);
+        let r = R::at(t, usize::from(numbers[j]));
         lay_shown(stamps, r, word, words, at);
     }
 }

@@ -115,7 +115,7 @@ fn newest<R: Row>(t: &R::Table, numbers: &[u8], bound: u64, least: u64) -> u64
 {
     let mut newest = least;
     for number in numbers {
-        let r = R::at(t, *number as usize);
+        let r = R::at(t, usize::from(*number));
         newest = newer(newest, r.seen().stamp, bound);
     }
     newest

@@ -11,8 +11,8 @@ use Rattle.std.proofs.Common.{Option, Some, None}
 use Rattle.model.specs.declared.Seen.{Seen}
 use Rattle.model.specs.declared.Pending.{Pending}
 use Rattle.model.specs.declared.Past.{Past}
-use Rattle.model.specs.Lists.{both, either, pick, elem_b, twice_b}
-use Rattle.model.specs.Store.{Slot, none, some, object_at, page_of, slot_of, lookup, look_of, current_of, span_or, in_span, holds_b, pending_seen, past_seen}
+use Rattle.model.specs.Lists.{either, pick, elem_b, twice_b}
+use Rattle.model.specs.Store.{Slot, none, some, object_at, slot_of, lookup, look_of, current_of, span_or, holds_b, pending_seen, past_seen}
 use Rattle.tables.specs.declared.Found.{Found}
 use Rattle.tables.specs.declared.Found.TheVariants.{At, Nothing}
 use Rattle.tables.specs.Rows.{pending_at}

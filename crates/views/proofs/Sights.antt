@@ -1,14 +1,12 @@
 -- Past rows and pending entries laid over a page's words on disk give the page that the model looks up in a store's contents.
 use Prim.Native.Nat.{ℕ}
-use mathlib.Core.Path.{◌≡◌, refl, ap, sym, ◌∙◌}
+use mathlib.Core.Path.{◌≡◌, refl, ap, ◌∙◌}
 use mathlib.Core.Bool.{false}
-use mathlib.Core.List.{List, [], map}
+use mathlib.Core.List.{List, []}
 use native.Mathlib.Omega.{arith}
 use lib.ListN.{length, take, get_or}
 use Rattle.std.proofs.Common.{Option, Some, None, is_some}
 use Rattle.model.specs.declared.Seen.{Seen}
-use Rattle.model.specs.declared.Past.{Past}
-use Rattle.model.specs.Lists.{twice_b}
 use Rattle.model.specs.Store.{Store, page16, object_at, slot_of, lookup, pending_seen, past_seen, disk}
 use Rattle.tables.specs.declared.Heads.{Heads}
 use Rattle.tables.specs.declared.Written.{Written}

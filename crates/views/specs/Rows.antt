@@ -1,9 +1,8 @@
 -- The rows that show: past values as of the stamps of their spans, pending entries now and from their latest stamps on.
 use Rattle.std.specs.Prelude.{ℕ, ◌≤◌, ◌<◌, ◌≡◌, Bool, true, false, Option, Some, None, leb, ltb}
-use Rattle.std.proofs.Common.{arith, refl}
+use Rattle.std.proofs.Common.{arith}
 use Rattle.model.specs.declared.Pending.{Pending}
 use Rattle.model.specs.declared.Past.{Past}
-use Rattle.model.specs.Lists.{both}
 use Rattle.model.specs.Store.{in_span}
 use borrow.Author.Tests.{lt-leb, le-leb, le-ltb, ltb-false}
 

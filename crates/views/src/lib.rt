@@ -227,8 +227,7 @@ fn lay_pasts(t: &PastTable, n: usize, v: ViewAnew, out: &mut [u64])
     for i in (0..n).rev() {
         let q = tables::past_at(t, i);
         if q.object / 16 == v.page {
-            let slot = (q.object % 16) as usize;
-            rows::lay_row(q, slot, v, out);
+            rows::lay_row(q, (q.object % 16) as usize, v, out);
         }
     }
 }
@@ -241,7 +240,7 @@ fn lay_pendings(t: &PendingTable, n: usize, index: &Index, v: ViewAnew, out: &mu
 {
     let at = 16 * (v.page as usize);
     for k in 0..16 {
-        let row = index[at + k] as usize;
+        let row = usize::from(index[at + k]);
         if row < n {
             rows::lay_row(tables::pending_at(t, row), k, v, out);
         }

@@ -2,7 +2,6 @@
 use Prim.Native.Nat.{◌*◌}
 use mathlib.Core.Path.{◌∙◌}
 use native.Mathlib.Omega.{arith}
-use borrow.Author.Rules.{rules}
 use Rattle.views.proofs.Pages.{page_cut}
 use Rattle.views.proofs.lay_disk_anew.Goals as goal
 

@@ -42,12 +42,12 @@ loop-k-preserved c =
           let q = w.out-is ∙ w.lay_row.ensures in (
             put_length (shows_by a.v.as_of e) v.out v.k (part_of_anew a.v.word (pending_seen e)) q v.invariant.0,
             replace_more (laid s) a.out.now v.k v.invariant.1 (same s) o (shows_by a.v.as_of e) (part_of_anew a.v.word (pending_seen e))
-                (slot_shown a.v v.k b p.bounds.1 ps a.n p.indexed.0 p.indexed.1 p.bounds.0 n a.out.now p.bounds.2 w.if-row-n.true w.pending_at.ensures) q,
+                (slot_shown a.v v.k b p.bounds.1 ps a.n p.indexed.0 p.indexed.1 p.bounds.0 n a.out.now p.bounds.2 (rw c.from-row.ensures at w.if-row-n.true) (rw c.from-row.ensures at w.pending_at.ensures)) q,
           )
       | else-row-n w ↦ (
         ap length w.out-is ∙ v.invariant.0,
         replace_more (laid s) a.out.now v.k v.invariant.1 (same s) o false 0
-            (slot_bare a.v v.k b p.bounds.1 ps a.n p.indexed.0 p.indexed.1 p.bounds.0 n a.out.now p.bounds.2 w.if-row-n.false) w.out-is,
+            (slot_bare a.v v.k b p.bounds.1 ps a.n p.indexed.0 p.indexed.1 p.bounds.0 n a.out.now p.bounds.2 (rw c.from-row.ensures at w.if-row-n.false)) w.out-is,
       )
     ])
 

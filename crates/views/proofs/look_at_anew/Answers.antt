@@ -1,7 +1,6 @@
 -- The page's words on disk, below the past rows unless the view is current, below the pending entries.
 use mathlib.Core.Path.{◌≡◌, sym, ◌∙◌}
 use borrow.Author.Rules.{rules}
-use lib.ListN.{take}
 use Rattle.model.specs.Store.{page16, slot_of, pending_seen}
 use Rattle.tables.specs.Rows.{pendings}
 use Rattle.views.specs.Views.{part_of_anew, shows_b_anew}

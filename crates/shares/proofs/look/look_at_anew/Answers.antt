@@ -7,7 +7,7 @@ use Rattle.tables.specs.Rows.{past_of, pending_of, pasts, pendings}
 use mathlib.Core.List.{[]}
 use Rattle.views.specs.Rows.{covers_by, shows_by}
 use Rattle.views.specs.Views.{part_of_anew, lay}
-use Rattle.views.proofs.Sights.{Sized, below_entries, below_now, below_past, sight_page}
+use Rattle.views.proofs.Sights.{below_entries, below_now, below_past, sight_page}
 use Rattle.shares.specs.Shares.{row_of_page, rows_at}
 use Rattle.shares.proofs.Laying.{lay_listed}
 use Rattle.shares.proofs.look.look_at_anew.Goals as goal

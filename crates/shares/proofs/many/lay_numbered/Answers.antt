@@ -18,7 +18,7 @@ loop-j-preserved g c =
       omega arith,
       λ f w p.
           pages_same
-          (λ s. lay_next (t.shown_b (Some s)) (λ r. slot_of (t.object_of r)) (λ r. part_of_anew a.word (t.seen_of r)) t.blank (t.rows a.t.now) a.numbers.now (v.j - 1) v.j (omega arith) (omega arith) c.at-r.ensures (f s))
+          (λ s. lay_next (t.shown_b (Some s)) (λ r. slot_of (t.object_of r)) (λ r. part_of_anew a.word (t.seen_of r)) t.blank (t.rows a.t.now) a.numbers.now (v.j - 1) v.j (omega arith) (omega arith) (rw c.from.ensures at c.at-r.ensures) (f s))
           (c.lay_shown.ensures (λ s. lay (t.shown_b (Some s)) (λ r. slot_of (t.object_of r)) (λ r. part_of_anew a.word (t.seen_of r)) (rows_at t.blank (t.rows a.t.now) (drop v.j a.numbers.now)) (f s)) w (v.invariant.1 f w p)),
     )
 

@@ -1,5 +1,4 @@
 -- The word is put for the stamps from the first at or behind the row's own on, as long as the row lasts.
-use mathlib.Core.Path.{◌≡◌}
 use Rattle.std.proofs.Common.{Some}
 use Rattle.model.specs.Store.{slot_of}
 use Rattle.views.specs.Views.{part_of_anew}
