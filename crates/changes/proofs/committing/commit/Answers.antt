@@ -18,9 +18,7 @@ use Rattle.changes.proofs.committing.commit.Goals as goal
 use Rattle.changes.proofs.committing.commit.Goals.{After-settled-answer, Else-damaged_or_indexed, Else-named_twice, Else-not-commit_shaped}
 
 pub damaged_or_indexed-requires : goal.damaged_or_indexed-requires
-damaged_or_indexed-requires c =
-    let l = c.laid.ensures in
-    (l.pending_rows, l.past_rows, l.snapshot_words, l.copy_rows, refl, blank_at 128 512)
+damaged_or_indexed-requires c = blank_at 128 512
 
 pub returns-then-damaged_or_indexed : goal.returns-then-damaged_or_indexed
 returns-then-damaged_or_indexed c =
