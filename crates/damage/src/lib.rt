@@ -87,13 +87,10 @@ pub fn met_again(t: &PendingTable, n: usize, index: &mut Index) -> bool
     ensures { (result ≡ twice_b (map (λ e. e.object) (take n (pendings t.now)))) × (result ≡ false → Indexed index.new (take n (pendings t.now))) }
 {
     let mut fresh: u8 = 128;
-    let mut i: usize = 0;
-    while i < n {
-        let e = tables::pending_at(t, i);
-        let object = e.object as usize;
-        fresh = fresh & index[object];
+    for i in 0..n {
+        let object = tables::pending_at(t, i).object as usize;
+        fresh &= index[object];
         index[object] = i as u8;
-        i += 1;
     }
     fresh < 128
 }
@@ -154,21 +151,12 @@ fn rows(pending: &PendingTable, past: &PastTable)
     ensures { (length (pendings pending.now) ≡ 128) × (length (pasts past.now) ≡ 256) }
 {}
 
-// Two of the entries are of one object; where none are, the index tells the row of each object's entry.
-// No entry ends the loop early: fresh stays 128 until an object comes that has a row already.
-pub fn met_again_anew(store: &Store, index: &mut Index) -> bool
-    requires { (store.now.heads.pending ≤ 128) × (any_b (λ e. leb 512 e.object) (take store.now.heads.pending (pendings store.now.written.pending)) ≡ false) × ((o : ℕ) → get_or index.old o 128 ≡ 128) }
-    ensures { (result ≡ twice_b (map (λ e. e.object) (take store.now.heads.pending (pendings store.now.written.pending)))) × (result ≡ false → Indexed index.new (take store.now.heads.pending (pendings store.now.written.pending))) }
-{
-    met_again(&store.written.pending, store.heads.pending, index)
-}
-
 // Damaged; where it is not, the index tells the row of each object's entry. It comes with 128 for every object.
 pub fn damaged_or_indexed_anew(store: &Store, index: &mut Index) -> bool
     requires { (o : ℕ) → get_or index.old o 128 ≡ 128 }
     ensures { (result ≡ model.damaged (stored store.now)) × (result ≡ false → Indexed index.new (take store.now.heads.pending (pendings store.now.written.pending))) }
 {
-    out_of_range_anew(store) || met_again_anew(store, index)
+    out_of_range_anew(store) || met_again(&store.written.pending, store.heads.pending, index)
 }
 
 pub fn damaged_anew(store: &Store) -> bool
@@ -182,5 +170,5 @@ pub fn damaged_anew(store: &Store) -> bool
         return false;
     }
     let mut index = [128u8; 512];
-    met_again_anew(store, &mut index)
+    met_again(&store.written.pending, store.heads.pending, &mut index)
 }

@@ -2,7 +2,7 @@
 use Rattle.rules.proofs.Marks.{blank_at}
 use Rattle.damage.proofs.damaged_anew.Goals as goal
 
-pub met_again_anew-requires : goal.met_again_anew-requires
-met_again_anew-requires c =
+pub met_again-requires : goal.met_again-requires
+met_again-requires c =
     let s = c.out_of_range_anew.ensures in
     ((s.counted c.if-out_of_range_anew.false).pending_count, s.low c.if-out_of_range_anew.false, blank_at 128 512)
