@@ -3,6 +3,7 @@ use Rattle.std.specs.Prelude.{ℕ, max, ◌≡◌, Bool, true, List, [], ◌∷�
 use Rattle.model.specs.Lists.{either, pick, all_b, kept}
 use Rattle.model.specs.Changes.{of_page}
 use Rattle.tables.specs.declared.Heads.{Heads}
+use Rattle.tables.specs.declared.Written.{Written}
 use Rattle.tables.specs.Rows.{pendings, pasts}
 use Rattle.shares.specs.Shares.{row_of_page}
 
@@ -28,3 +29,8 @@ outside_b l w = either (leb w l.from) (leb l.until w)
 pub record Still (pending past : List (List ℕ)) (h : Heads) (page : ℕ) (l : Lull) : Type 0 where
   pub entries : all_b (λ e. outside_b l e.latest) (kept (of_page page) (take h.pending (pendings pending))) ≡ true
   pub past_rows : all_b (λ q. outside_b l q.from) (kept (row_of_page page) (take h.past (pasts past))) ≡ true
+
+-- the page's entries and past rows were written outside a lull
+pub record StillAnew (w : Written) (h : Heads) (page : ℕ) (l : Lull) : Type 0 where
+  pub entries : all_b (λ e. outside_b l e.latest) (kept (of_page page) (take h.pending (pendings w.pending))) ≡ true
+  pub past_rows : all_b (λ q. outside_b l q.from) (kept (row_of_page page) (take h.past (pasts w.past))) ≡ true

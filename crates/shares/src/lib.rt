@@ -5,19 +5,73 @@ pub mod look;
 pub mod many;
 pub mod quiet;
 
-ghost use Rattle.std.specs.Prelude.{◌≡◌, [], ◌<◌, ◌≤◌, length, get_or};
+ghost use Rattle.std.specs.Prelude.{◌≡◌, List, [], ℕ, ◌<◌, ◌≤◌, length, take, get_or};
 ghost use Rattle.model.specs.Changes.{of_page};
 ghost use Rattle.tables.specs.Rows.{pending_of, past_of, pendings, pasts, pending_at, past_at};
-ghost use Rattle.shares.specs.Shares.{row_of_page, Numbered, Shared};
+ghost use Rattle.shares.specs.Shares.{row_of_page, Numbered, Shared, SharedAnew};
 
 use model::{Past, Pending};
-use tables::{Heads, PastTable, PendingTable};
+use std::marker::Model;
+use tables::{Heads, PastTable, PendingTable, Written};
 
 // How many past rows and entries are of a page; their numbers stand beside it.
 #[derive(Clone, Copy)]
 pub struct Share {
     pub rows: usize,
     pub entries: usize,
+}
+
+// The numbers of a table's rows that are of a page, in their order: N at most.
+#[derive(Drop)]
+pub struct RowNumbers<const N: usize> {
+    at: [u8; N],
+    count: usize,
+}
+
+// Clauses see the numbers.
+impl<const N: usize> Model for RowNumbers<N> {
+    ghost use Rattle.std.specs.Prelude.{ℕ, List, take, ◌≤◌};
+
+    ghost Value = { List ℕ };
+
+    ghost view = { λ s. take s.count s.at };
+
+    ghost invariant = { λ s. s.count ≤ N };
+}
+
+impl<const N: usize> RowNumbers<N> {
+    pub fn none() -> Self
+        ensures { result ≡ [] }
+    {
+        RowNumbers {
+            at: [0; N],
+            count: 0,
+        }
+    }
+
+    pub fn listed(&self) -> &[u8]
+        ensures { result.now ≡ self.now }
+    {
+        &self.at[..self.count]
+    }
+}
+
+// A page's past rows and its entries, by their numbers.
+#[derive(Drop)]
+pub struct ShareAnew {
+    pub rows: RowNumbers<256>,
+    pub entries: RowNumbers<128>,
+}
+
+impl ShareAnew {
+    pub fn none() -> Self
+        ensures { (result.rows ≡ []) × (result.entries ≡ []) }
+    {
+        ShareAnew {
+            rows: RowNumbers::none(),
+            entries: RowNumbers::none(),
+        }
+    }
 }
 
 fn entry_of_page(e: Pending, page: u64) -> bool
@@ -83,6 +137,16 @@ pub fn find_share(
     let rows = number_rows(past, h.past, page, row_numbers);
     let entries = number_entries(pending, h.pending, page, entry_numbers);
     Share { rows, entries }
+}
+
+pub fn find_share_anew(w: &Written, h: Heads, page: u64, share: &mut ShareAnew)
+    requires { (h.pending ≤ 128) × (h.past ≤ 256) }
+    ensures { SharedAnew w.now h page share.new }
+{
+    let rows = &mut share.rows;
+    rows.count = number_rows(&w.past, h.past, page, &mut rows.at);
+    let entries = &mut share.entries;
+    entries.count = number_entries(&w.pending, h.pending, page, &mut entries.at);
 }
 
 fn wide(x: u8) -> usize

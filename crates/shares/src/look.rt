@@ -4,13 +4,13 @@ ghost use Rattle.model.specs.Changes.{of_page};
 ghost use Rattle.model.specs.Store.{page16, object_at, slot_of, pending_seen, past_seen};
 ghost use Rattle.tables.specs.Rows.{pending_of, past_of, pendings, pasts};
 ghost use Rattle.tables.specs.Contents.{contents};
-ghost use Rattle.views.specs.Views.{part_of, viewed, covers_b, shows_b, lay, Lookable};
-ghost use Rattle.shares.specs.Shares.{row_of_page, Numbered, Shared};
+ghost use Rattle.views.specs.Views.{part_of, viewed, covers_b, shows_b, lay, Lookable, viewed_anew, LookableAnew};
+ghost use Rattle.shares.specs.Shares.{row_of_page, Numbered, Shared, SharedAnew};
 
-use crate::Share;
+use crate::{Share, ShareAnew};
 use model::{Past, Pending};
-use tables::{Disk, Heads, PastTable, PendingTable};
-use views::View;
+use tables::{Disk, Heads, PastTable, PendingTable, Written};
+use views::{View, ViewAnew};
 
 // The stamps are tested first: the page is the row's already.
 fn covers(q: Past, v: View) -> bool
@@ -99,4 +99,31 @@ pub fn look_at(
         lay_rows(past, h.past, row_numbers, share.rows, v, out);
     }
     lay_entries(pending, h.pending, entry_numbers, share.entries, v, out);
+}
+
+// The page as the view asks, where no copy serves.
+pub fn look_at_anew(w: &Written, h: Heads, share: &ShareAnew, view: ViewAnew, out: &mut [u64])
+    requires lookable { LookableAnew w.now h view.page }
+    requires shared { SharedAnew w.now h view.page share.now × (length out.old ≡ 16) }
+    ensures { (snapshots : List ℕ) (copies : List (List ℕ)) (copied : List ℕ) → out.new ≡ page16 (λ k. viewed_anew (contents w.now.disk w.now.dated w.now.pending w.now.past snapshots copies copied h) view (object_at view.page k)) }
+{
+    let rows = &share.rows;
+    let entries = &share.entries;
+    let numbers = Share {
+        rows: rows.count,
+        entries: entries.count,
+    };
+    let v = views::asked(view);
+    look_at(
+        &w.disk,
+        &w.dated,
+        &w.pending,
+        &w.past,
+        h,
+        numbers,
+        &rows.at,
+        &entries.at,
+        v,
+        out,
+    );
 }

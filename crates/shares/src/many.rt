@@ -3,14 +3,14 @@ ghost use Rattle.std.specs.Prelude.{◌≡◌, List, [], ℕ, ◌+◌, ◌*◌, 
 ghost use Rattle.model.specs.Lists.{pick};
 ghost use Rattle.model.specs.Store.{page16, object_at, slot_of, in_span, pending_seen, past_seen};
 ghost use Rattle.tables.specs.Rows.{pending_of, past_of, pendings, pasts};
-ghost use Rattle.views.specs.Views.{part_of, lay, Lookable};
-ghost use Rattle.shares.specs.Shares.{rows_at, Shared};
-ghost use Rattle.shares.specs.Many.{Ordered, FirstFrom, Pages, page_at};
+ghost use Rattle.views.specs.Views.{part_of, lay, Lookable, LookableAnew};
+ghost use Rattle.shares.specs.Shares.{rows_at, Shared, SharedAnew};
+ghost use Rattle.shares.specs.Many.{Ordered, FirstFrom, Pages, page_at, page_at_anew};
 
-use crate::Share;
+use crate::{Share, ShareAnew};
 use model::{Past, Pending};
-use tables::{Disk, Heads, PastTable, PendingTable};
-use views::View;
+use tables::{Disk, Heads, PastTable, PendingTable, Written};
+use views::{View, ViewAnew, Word};
 
 // The page's words on disk, n times.
 fn lay_disks(
@@ -142,6 +142,50 @@ pub fn look_at_all(
         share.entries,
         stamps,
         ages,
+        words,
+        at,
+    );
+}
+
+// The page as of each stamp, where no copy serves.
+pub fn look_at_all_anew(
+    w: &Written,
+    h: Heads,
+    share: &ShareAnew,
+    page: u64,
+    word: Word,
+    stamps: &[u64],
+    words: &mut [u64],
+    at: usize,
+)
+    requires lookable { LookableAnew w.now h page }
+    requires shared { SharedAnew w.now h page share.now }
+    requires ordered { Ordered stamps.now × (at + 16 * length stamps.now ≤ length words.old) }
+    ensures { Pages (page_at_anew w.now h page word) stamps.now at words.old words.new }
+{
+    let rows = &share.rows;
+    let entries = &share.entries;
+    let numbers = Share {
+        rows: rows.count,
+        entries: entries.count,
+    };
+    let v = views::asked(ViewAnew {
+        page,
+        as_of: None,
+        word,
+    });
+    look_at_all(
+        &w.disk,
+        &w.dated,
+        &w.pending,
+        &w.past,
+        h,
+        numbers,
+        &rows.at,
+        &entries.at,
+        page,
+        v.ages,
+        stamps,
         words,
         at,
     );

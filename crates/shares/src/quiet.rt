@@ -4,11 +4,11 @@ ghost use Rattle.model.specs.Lists.{kept};
 ghost use Rattle.model.specs.Changes.{of_page};
 ghost use Rattle.model.specs.Store.{object_at};
 ghost use Rattle.tables.specs.Rows.{pending_of, past_of, pendings, pasts};
-ghost use Rattle.shares.specs.Shares.{row_of_page, Numbered, Shared};
-ghost use Rattle.shares.specs.Lulls.{newer_of, newest_of, Still};
+ghost use Rattle.shares.specs.Shares.{row_of_page, Numbered, Shared, SharedAnew};
+ghost use Rattle.shares.specs.Lulls.{newer_of, newest_of, Still, StillAnew};
 
-use crate::Share;
-use tables::{Disk, Heads, PastTable, PendingTable};
+use crate::{Share, ShareAnew};
+use tables::{Disk, Heads, PastTable, PendingTable, Written};
 
 // The larger of a stamp and the newest so far, where it isn't beyond the bound.
 fn newer(newest: u64, stamp: u64, bound: u64) -> u64
@@ -111,5 +111,31 @@ pub fn newest_up_to(
         share.entries,
         bound,
         b,
+    )
+}
+
+// The newest of the page's stamps on disk, and of those up to the bound that wrote its past rows and its entries.
+pub fn newest_up_to_anew(w: &Written, h: Heads, page: u64, share: &ShareAnew, bound: u64) -> u64
+    requires shared { SharedAnew w.now h page share.now }
+    requires counts { (h.pending ≤ 128) × (h.past ≤ 256) × (page < 32) }
+    ensures still { StillAnew w.now h page (record { from = result; until = bound + 1 }) }
+    ensures by_index { (k : ℕ) → k < 16 → get_or w.now.dated (object_at page k) 0 ≤ result }
+{
+    let rows = &share.rows;
+    let entries = &share.entries;
+    let numbers = Share {
+        rows: rows.count,
+        entries: entries.count,
+    };
+    newest_up_to(
+        &w.dated,
+        &w.pending,
+        &w.past,
+        h,
+        page,
+        numbers,
+        &rows.at,
+        &entries.at,
+        bound,
     )
 }

@@ -1,6 +1,6 @@
 -- Past rows and pending entries laid over a page's words on disk give the page that the model looks up in a store's contents.
 use Prim.Native.Nat.{ℕ}
-use mathlib.Core.Path.{◌≡◌, ◌∙◌}
+use mathlib.Core.Path.{◌≡◌, ◌∙◌, ap}
 use mathlib.Core.Bool.{true, false}
 use mathlib.Core.List.{List, [], map}
 use native.Mathlib.Omega.{arith}
@@ -9,13 +9,15 @@ use Rattle.model.specs.declared.Seen.{Seen}
 use Rattle.model.specs.declared.Pending.{Pending}
 use Rattle.model.specs.declared.Past.{Past}
 use Rattle.model.specs.Lists.{pick, twice_b}
-use Rattle.model.specs.Store.{page16, object_at, slot_of, lookup, look_of, current_of, span_or, pending_seen, past_seen}
+use Rattle.model.specs.Store.{Store, page16, object_at, slot_of, lookup, look_of, current_of, span_or, pending_seen, past_seen}
 use Rattle.tables.specs.declared.Heads.{Heads}
 use Rattle.tables.specs.Rows.{pending_of, past_of, pendings, pasts}
 use Rattle.tables.specs.Contents.{contents}
 use Rattle.tables.proofs.Counts.{up_to_take}
 use Rattle.views.specs.declared.View.{View}
-use Rattle.views.specs.Views.{part_of, viewed, covers_b, shows_b, Lookable}
+use Rattle.views.specs.declared.ViewAnew.{ViewAnew}
+use Rattle.views.specs.Views.{part_of, viewed, viewed_anew, covers_b, shows_b, Lookable}
+use Rattle.views.proofs.Pages.{page_same}
 use Rattle.views.proofs.Laying.{past_over, pending_over, lay_page}
 use Rattle.views.proofs.Words.{past_word, pending_word}
 
@@ -63,3 +65,8 @@ look_page values stamps pending past h v a d snapshots copies copied =
       d,
     )
     (pending_page v (below values stamps qs v) (spanned values stamps qs v) (take h.pending (pendings pending)) a.single)
+
+-- two views that show the same
+pub answered : (v : View) (u : ViewAnew) → v.page ≡ u.page → ((st : Store) (o : ℕ) → viewed st v o ≡ viewed_anew st u o) → (st : Store)
+    → page16 (λ k. viewed st v (object_at v.page k)) ≡ page16 (λ k. viewed_anew st u (object_at u.page k))
+answered v u e f st = page_same _ _ (λ k h. ap (λ p. viewed st v (object_at p k)) e ∙ f st (object_at u.page k))

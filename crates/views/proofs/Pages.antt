@@ -33,6 +33,9 @@ pub page_of_lem : (l : List ℕ) (f : ℕ → ℕ) → length l ≡ 16 → ((k :
 page_of_lem l f e h =
     ext_get_or 0 l (page16 f) (e ∙ sym (page_length f)) (λ k b. let m : k < 16 = omega arith in h k m ∙ sym (page_at_lem f k m))
 
+pub page_same : (f g : ℕ → ℕ) → ((k : ℕ) → k < 16 → f k ≡ g k) → page16 f ≡ page16 g
+page_same f g e = page_of_lem (page16 f) g (page_length f) (λ k h. page_at_lem f k h ∙ e k h)
+
 pub page_cut : (words : List ℕ) (at : ℕ) → at + 16 ≤ length words → take 16 (drop at words) ≡ page16 (λ k. get_or words (at + k) 0)
 page_cut words at h =
     page_of_lem (take 16 (drop at words)) (λ k. get_or words (at + k) 0) (simp (length-take, length-drop) (omega arith))
