@@ -10,12 +10,12 @@ mod settle;
 ghost use Rattle.std.specs.Prelude.{◌≡◌, List, ℕ, length};
 ghost use Rattle.model.specs.Changes.{flush_store};
 ghost use Rattle.model.specs.Judgement.{judge_flush};
-ghost use Rattle.tables.specs.Contents.{contents};
-ghost use Rattle.flushes.specs.Promises.{Ready, Planned, Room, Applied};
+ghost use Rattle.tables.specs.Contents.{contents, stored};
+ghost use Rattle.flushes.specs.Promises.{Ready, Planned, Room, Applied, ReadyAnew, PlannedAnew, AppliedAnew, Whole};
 
 use model::Verdict;
 use shares::Share;
-use tables::{Copied, CopyTable, Disk, Heads, PastTable, PendingTable, Snapshots};
+use tables::{Copied, CopyTable, Disk, Heads, PastTable, PendingTable, Snapshots, Store};
 
 // What the judge found and the writer needs: the page's share of the tables, how many snapshots are due, the page's mark after the flush, and how many past rows stay.
 #[derive(Clone, Copy)]
@@ -30,6 +30,36 @@ pub struct Plan {
 pub struct Judged {
     pub verdict: Verdict,
     pub plan: Plan,
+}
+
+// What the judge found and the writer needs: the page's share of the tables, the due snapshots with their count, the page's mark
+// after the flush, and how many past rows stay.
+#[derive(Drop)]
+pub struct PlanAnew {
+    share: Share,
+    row_numbers: [u8; 256],
+    entry_numbers: [u8; 128],
+    due: [u64; 64],
+    dues: usize,
+    mark: u64,
+    staying: usize,
+}
+
+impl PlanAnew {
+    pub fn empty() -> PlanAnew {
+        PlanAnew {
+            share: Share {
+                rows: 0,
+                entries: 0,
+            },
+            row_numbers: [0; 256],
+            entry_numbers: [0; 128],
+            due: [0; 64],
+            dues: 0,
+            mark: 0,
+            staying: 0,
+        }
+    }
 }
 
 // How a page's past rows are judged: the page, its mark after the flush, the horizon, and how many snapshots are known.
@@ -170,4 +200,72 @@ pub fn apply_flush(
         horizon: h.horizon,
         last: h.last,
     }
+}
+
+// A contract knows the length of a lent array, and not of an array in a struct further in. Compiled, nothing is left of this.
+fn whole(values: &Disk, stamps: &Disk, pending: &PendingTable, past: &PastTable)
+    ensures { Whole values.now stamps.now pending.now past.now }
+{}
+
+// What the store says of the flush: nothing to do, Archive full, Past full, or accepted; the plan is filled whatever it says.
+pub fn judge_flush_anew(store: &Store, page: u64, plan: &mut PlanAnew) -> Verdict
+    requires { ReadyAnew store.now page }
+    ensures verdict { result ≡ judge_flush (stored store.now) page }
+    ensures planned { PlannedAnew store.now page plan.new }
+{
+    let w = &store.written;
+    whole(&w.disk, &w.dated, &w.pending, &w.past);
+    let judged = judge_flush(
+        &w.disk,
+        &w.dated,
+        &w.pending,
+        &w.past,
+        &store.snapshots,
+        &store.copies,
+        store.heads,
+        page,
+        &mut plan.due,
+        &mut plan.row_numbers,
+        &mut plan.entry_numbers,
+    );
+    let found = judged.plan;
+    plan.share = found.share;
+    plan.dues = found.dues;
+    plan.mark = found.mark;
+    plan.staying = found.staying;
+    judged.verdict
+}
+
+// Copies of the due snapshots, the page's entries to disk, and the past values that are still live. The judge has accepted it, so there is room.
+pub fn apply_flush_anew(store: &mut Store, page: u64, plan: &PlanAnew)
+    requires ready { ReadyAnew store.old page }
+    requires planned { PlannedAnew store.old page plan.now }
+    requires room { Room (flush_store (stored store.old) page) }
+    ensures { AppliedAnew store.old page store.new }
+{
+    let h = store.heads;
+    let w = &mut store.written;
+    whole(&w.disk, &w.dated, &w.pending, &w.past);
+    let found = Plan {
+        share: plan.share,
+        dues: plan.dues,
+        mark: plan.mark,
+        staying: plan.staying,
+    };
+    let heads = apply_flush(
+        &mut w.disk,
+        &mut w.dated,
+        &mut w.pending,
+        &mut w.past,
+        &store.snapshots,
+        &mut store.copies,
+        &mut store.copied,
+        h,
+        page,
+        &plan.due,
+        &plan.row_numbers,
+        &plan.entry_numbers,
+        found,
+    );
+    store.heads = heads;
 }
