@@ -13,6 +13,7 @@ use Rattle.model.specs.Lists.{both, either, any_b, all_b, twice_b}
 use Rattle.model.specs.Damage.{overfull, misnumbered, doubled, misordered, damaged}
 use Rattle.rules.proofs.Laws.{within}
 use Rattle.rules.proofs.Marks.{few_once}
+pub use Rattle.rules.proofs.Marks.{blank_at}
 use Rattle.tables.specs.declared.Heads.{Heads}
 use Rattle.tables.specs.Rows.{pending_of, past_of, pendings, pasts, copy_heads, copies_of, pending_at}
 use Rattle.tables.specs.declared.Store as held

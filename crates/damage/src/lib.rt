@@ -6,7 +6,7 @@ ghost use Rattle.model.specs.Lists.{either, any_b, twice_b};
 ghost use Rattle.model.specs.Damage as model;
 ghost use Rattle.tables.specs.Rows.{pendings, pasts, copy_heads, copies_of};
 ghost use Rattle.tables.specs.Lookups.{Indexed};
-ghost use Rattle.tables.specs.Contents.{contents, stored};
+ghost use Rattle.tables.specs.Contents.{contents, stored, Counted};
 ghost use Rattle.damage.specs.Sifted.{Sifted, SiftedAnew};
 
 use tables::{CopyTable, Heads, Index, PastTable, PendingTable, Snapshots, Store};
@@ -154,7 +154,7 @@ fn rows(pending: &PendingTable, past: &PastTable)
 // Damaged; where it is not, the index tells the row of each object's entry. It comes with 128 for every object.
 pub fn damaged_or_indexed_anew(store: &Store, index: &mut Index) -> bool
     requires { (o : ℕ) → get_or index.old o 128 ≡ 128 }
-    ensures { (result ≡ model.damaged (stored store.now)) × (result ≡ false → Indexed index.new (take store.now.heads.pending (pendings store.now.written.pending))) }
+    ensures { (result ≡ model.damaged (stored store.now)) × (result ≡ false → Indexed index.new (take store.now.heads.pending (pendings store.now.written.pending))) × (result ≡ false → Counted store.now.heads × (twice_b (map (λ e. e.object) (take store.now.heads.pending (pendings store.now.written.pending))) ≡ false)) }
 {
     out_of_range_anew(store) || met_again(&store.written.pending, store.heads.pending, index)
 }
