@@ -5,8 +5,8 @@ use native.Mathlib.Omega.{arith}
 use lib.Dec.{leb}
 use borrow.Author.Tests.{lt-leb}
 use Rattle.model.specs.Limits.{last_tick}
-use Rattle.reads.proofs.Answers.{read_damaged, read_bad}
-use Rattle.reads.proofs.clock_read.Goals as goal
+use Rattle.reads.proofs.Before.Answers.{read_damaged, read_bad}
+use Rattle.reads.proofs.lent.clock_read.Goals as goal
 
 pub returns-then-damaged : goal.returns-then-damaged
 returns-then-damaged c =

@@ -1,8 +1,8 @@
 -- Each test that fails settles the answer; past them all the tables show the page as it is now.
 use mathlib.Core.Path.{refl, sym, ◌∙◌}
-use Rattle.reads.proofs.Undamaged.{blank}
-use Rattle.reads.proofs.Answers.{now_damaged, now_misshaped, now_done}
-use Rattle.reads.proofs.current_read.Goals as goal
+use Rattle.reads.proofs.Before.Undamaged.{blank}
+use Rattle.reads.proofs.Before.Answers.{now_damaged, now_misshaped, now_done}
+use Rattle.reads.proofs.lent.current_read.Goals as goal
 
 pub returns-then-out_of_range : goal.returns-then-out_of_range
 returns-then-out_of_range c =

@@ -1,7 +1,7 @@
 -- Zeros where the tables are damaged, else the heads and the known snapshots.
 use mathlib.Core.Path.{sym, ◌∙◌}
-use Rattle.reads.proofs.Listed.{knows_damaged, in_range, knows_whole}
-use Rattle.reads.proofs.known.Goals as goal
+use Rattle.reads.proofs.Before.Listed.{knows_damaged, in_range, knows_whole}
+use Rattle.reads.proofs.lent.known.Goals as goal
 
 pub returns-then-damaged : goal.returns-then-damaged
 returns-then-damaged c =

@@ -3,7 +3,7 @@ use Prim.Native.Nat.{◌≤◌, ◌-◌}
 use mathlib.Core.Path.{◌≡◌}
 use lib.ListN.{take}
 use Rattle.reads.specs.Knows.{padded}
-use Rattle.reads.proofs.first_known.Given as goal
+use Rattle.reads.proofs.lent.first_known.Given as goal
 
 abbrev pub invariant-loop-i : goal.invariant-loop-i
 invariant-loop-i l = (l.i ≤ l.n) × (l.stamps ≡ padded (take l.i l.snapshots))

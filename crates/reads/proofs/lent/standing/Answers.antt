@@ -5,9 +5,9 @@ use mir.ValLaws.{to_z-of_z}
 use Rattle.model.specs.Store.{Store}
 use Rattle.model.specs.Damage.{damaged}
 use Rattle.tables.specs.Contents.{contents}
-use Rattle.reads.proofs.Figured.{stood_damaged, stood_whole}
-use Rattle.reads.proofs.standing.Goals as goal
-use Rattle.reads.proofs.standing.Goals.{After-damaged}
+use Rattle.reads.proofs.Before.Figured.{stood_damaged, stood_whole}
+use Rattle.reads.proofs.lent.standing.Goals as goal
+use Rattle.reads.proofs.lent.standing.Goals.{After-damaged}
 
 abbrev held : After-damaged → Store
 held c =

@@ -8,9 +8,9 @@ use Rattle.tables.specs.Rows.{pendings, up_to}
 use Rattle.tables.specs.declared.Heads.{Heads}
 use Rattle.tables.specs.Contents.{Laid, Counted}
 use Rattle.damage.proofs.Laws.{lone}
-use Rattle.reads.proofs.Undamaged.{blank, known}
-use Rattle.reads.proofs.Answers.{shown_by, read_damaged, read_refused, read_done}
-use Rattle.reads.proofs.read_at.Goals as goal
+use Rattle.reads.proofs.Before.Undamaged.{blank, known}
+use Rattle.reads.proofs.Before.Answers.{shown_by, read_damaged, read_refused, read_done}
+use Rattle.reads.proofs.lent.read_at.Goals as goal
 
 -- the snapshot that is shown, by the model
 shown : {values stamps : List ℕ} {pending past : List (List ℕ)} {snapshots : List ℕ} {copies : List (List ℕ)} {copied : List ℕ} {h : Heads}
