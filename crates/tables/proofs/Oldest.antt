@@ -37,9 +37,6 @@ HeldAt hs n p s best (Some at) i = Best hs n p s best at i
 pub record Held (hs : List CopyHead) (n p s best : ℕ) (at : Option ℕ) (i : ℕ) : Type 0 where
   pub is : HeldAt hs n p s best at i
 
-pub held_start : (hs : List CopyHead) (n p s : ℕ) → Held hs n p s 18446744073709551615 None n
-held_start hs n p s = record { is = record { most = refl; none = λ words. rw (back_start n (copies_of hs words)) } }
-
 module _ {hs : List CopyHead} {n i : ℕ} (t : Turn hs n i) {x : CopyHead} (r : x ≡ copy_head_at hs (i - 1)) where
   turned : (p s : ℕ) (words : List ℕ)
       → oldest_from hs n p s (i - 1) words
@@ -80,12 +77,3 @@ module _ {hs : List CopyHead} {n i : ℕ} (t : Turn hs n i) {x : CopyHead} (r : 
 
     pub held_kept : x.page ≡ p → s ≤ x.stamp → best < x.stamp → x.stamp ≤ 18446744073709551615 → Held hs n p s best at (i - 1)
     held_kept e f b w = record { is = stayed p s e f best at v.is b w }
-
--- ---- the answer, once all rows are passed
-module _ (hs : List CopyHead) (n p s best i : ℕ) (z : i ≤ 0) where
-  served : (at : Option ℕ) → HeldAt hs n p s best at i → Serving p s n hs at
-  served None v = record { copy = λ words. sym (v.none words) ∙ ap (oldest p s) (back_end i (take n (copies_of hs words)) z); inside = tt }
-  served (Some at) v = record { copy = λ words. sym (v.serves words) ∙ ap (oldest p s) (back_end i (take n (copies_of hs words)) z); inside = v.within }
-
-pub serving_all : {hs : List CopyHead} {n p s best i : ℕ} {at : Option ℕ} → Held hs n p s best at i → i ≤ 0 → Serving p s n hs at
-serving_all {hs} {n} {p} {s} {best} {i} {at} v z = served hs n p s best i z at v.is

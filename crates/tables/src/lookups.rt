@@ -132,11 +132,7 @@ pub fn serving(t: &CopyTable, n: usize, page: u64, s: u64) -> Option<usize>
 pub fn beyond(q: Past, horizon: u64) -> bool
     ensures { result ≡ beyond_b horizon q }
 {
-    if q.from < q.until {
-        horizon < q.until - 1
-    } else {
-        false
-    }
+    q.from < q.until && horizon < q.until - 1
 }
 
 // The last of the first n snapshots before a stamp, or 0.
@@ -154,10 +150,7 @@ pub fn last_before(snapshots: &Snapshots, n: usize, until: u64) -> u64
 pub fn wants(q: Past, s: u64, marked: u64) -> bool
     ensures { result ≡ wants_b s marked q }
 {
-    if s < q.from {
-        return false;
-    }
-    marked < s
+    q.from <= s && marked < s
 }
 
 // Some known snapshot lies in the row's span, beyond a mark: if any does, the last one before the span's end.
