@@ -113,19 +113,20 @@ pub fn serving(t: &CopyTable, n: usize, page: u64, s: u64) -> Option<usize>
     ensures { Serving page s n (copy_heads t.now) result }
 {
     let mut best = u64::MAX;
-    let mut at = None;
+    // Kept: a row number with n for none, and no Option in the loop: that took four instructions more for each copy.
+    let mut at = n;
     for i in (0..n).rev() {
         let c = crate::copy_at(t, i);
         if c.page == page {
             if s <= c.stamp {
                 if c.stamp <= best {
                     best = c.stamp;
-                    at = Some(i);
+                    at = i;
                 }
             }
         }
     }
-    at
+    if at < n { Some(at) } else { None }
 }
 
 // Some stamp of the row's span is beyond the horizon.
