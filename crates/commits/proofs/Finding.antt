@@ -1,4 +1,5 @@
 -- The row of an object's entry: what a row below 128 and a row of 128 say. And the index of the entries that a write leaves.
+use Rattle.std.specs.Prelude.{Option, Some, None}
 use Prim.Native.Nat.{ℕ, zero, suc, ◌≤◌, ◌<◌}
 use mathlib.Core.Path.{◌≡◌, refl, ap, sym, ◌∙◌}
 use mathlib.Core.Bool.{Bool}
@@ -10,8 +11,6 @@ use lib.Dec.{eqb}
 use Rattle.model.specs.declared.Pending.{Pending}
 use Rattle.model.specs.Changes.{put}
 use Rattle.tables.specs.declared.Heads.{Heads}
-use Rattle.tables.specs.declared.Found.{Found}
-use Rattle.tables.specs.declared.Found.TheVariants.{At, Nothing}
 use Rattle.tables.specs.Rows.{pending_of, pending_at, pendings, up_to, touched}
 use Rattle.tables.specs.Lookups.{first_at, find_pending, row_of, Indexed}
 use Rattle.tables.specs.Contents.{Counted}
@@ -25,11 +24,11 @@ pub pending_taken : (pending : List (List ℕ)) (h : Heads) → length (pendings
 pending_taken pending h l c = up_to_take (pending_of []) h.pending (pendings pending) (omega arith)
 
 -- ---- one row
-pub row_at : (f : Found) {row : ℕ} → row ≡ row_of f → row < 128 → f ≡ At row
-row_at (At i) e l = ap At (sym e)
-row_at Nothing e l = absurd (omega arith)
+pub row_at : (f : Option ℕ) {row : ℕ} → row ≡ row_of f → row < 128 → f ≡ Some row
+row_at (Some i) e l = ap Some (sym e)
+row_at None e l = absurd (omega arith)
 
-pub row_none : (o : ℕ) (es : List Pending) → length es ≤ 128 → {row : ℕ} → row ≡ row_of (find_pending o es) → 128 ≤ row → find_pending o es ≡ Nothing
+pub row_none : (o : ℕ) (es : List Pending) → length es ≤ 128 → {row : ℕ} → row ≡ row_of (find_pending o es) → 128 ≤ row → find_pending o es ≡ None
 row_none o es l e h =
     by_found (find_pending o es)
     (λ i f. let b = found_below o es i f in absurd (omega (arith, rw f at e)))
@@ -41,14 +40,14 @@ first_set f [] i y d k e = refl
 first_set f (x ∷ xs) zero y d k e = rw e
 first_set f (x ∷ xs) (suc i) y d k e = rw (first_set f xs i y d (suc k) e)
 
-pub indexed_over : (o t v : ℕ) (es : List Pending) {index : List ℕ} → Indexed index es → (i : ℕ) → find_pending o es ≡ At i → Indexed index (put o t v es)
+pub indexed_over : (o t v : ℕ) (es : List Pending) {index : List ℕ} → Indexed index es → (i : ℕ) → find_pending o es ≡ Some i → Indexed index (put o t v es)
 indexed_over o t v es x i f = rw (put_at o t v es i f) (record {
   objects_in = x.objects_in;
   row_at = λ p l. x.row_at p l ∙ ap row_of (sym (first_set (λ e. eqb e.object p) es i (touched (pending_at es i) t v) (pending_of []) 0 refl));
 })
 
 -- else the entry stands in the next row
-pub indexed_new : (o t v : ℕ) (es : List Pending) (n : ℕ) {index : List ℕ} → Indexed index (take n es) → n < length es → n < 128 → find_pending o (take n es) ≡ Nothing → o < 512
+pub indexed_new : (o t v : ℕ) (es : List Pending) (n : ℕ) {index : List ℕ} → Indexed index (take n es) → n < length es → n < 128 → find_pending o (take n es) ≡ None → o < 512
     → Indexed (set index o n) (put o t v (take n es))
 indexed_new o t v es n {index} x l m f b =
     let y = opened o t v in

@@ -1,4 +1,5 @@
 -- One write to the tables: what it displaces, the past value that it adds if live, and the store that it leaves.
+use Rattle.std.specs.Prelude.{Some, None}
 use Prim.Native.Nat.{ℕ, ◌+◌, ◌≤◌, ◌<◌}
 use mathlib.Core.Path.{◌≡◌, refl, ap, ◌∙◌}
 use mathlib.Core.Bool.{Bool, true, false}
@@ -12,7 +13,6 @@ use Rattle.model.specs.declared.Past.{Past}
 use Rattle.model.specs.Store.{some, lookup, live_b}
 use Rattle.model.specs.Changes.{closed, write_one}
 use Rattle.tables.specs.declared.Heads.{Heads}
-use Rattle.tables.specs.declared.Found.TheVariants.{At, Nothing}
 use Rattle.tables.specs.Rows.{pending_of, past_of, pendings, pasts, copy_heads, copies_of, pending_at, up_to, touched}
 use Rattle.tables.specs.Lookups.{find_pending}
 use Rattle.tables.specs.Contents.{contents, Counted}
@@ -65,10 +65,10 @@ module _ {pending : List (List ℕ)} {snapshots : List ℕ} {copies : List (List
   as_taken : up_to (pending_of []) h.pending (pendings pending) ≡ entries
   as_taken = pending_taken pending h r.pending_rows r.counted
 
-  at_row : row < 128 → find_pending o entries ≡ At row
+  at_row : row < 128 → find_pending o entries ≡ Some row
   at_row l = row_at (find_pending o entries) r.found l
 
-  no_row : 128 ≤ row → find_pending o entries ≡ Nothing
+  no_row : 128 ≤ row → find_pending o entries ≡ None
   no_row l =
       let c = r.counted.pending_count in
       let w : length entries ≤ 128 = rw (length-take-le h.pending (pendings pending) in_table) c in

@@ -136,7 +136,7 @@ pub fn drop_rows(
     tables::dropping::drop_dead(
         past,
         n,
-        rule.page,
+        Some(rule.page),
         rule.horizon,
         snapshots,
         rule.known,

@@ -171,7 +171,7 @@ fn drop_rows(
     }
     let mut marks = [0u64; 32];
     tables::lookups::marks_of(copies, m, &mut marks);
-    tables::dropping::drop_dead(past, n, 32, horizon, snapshots, known, &marks)
+    tables::dropping::drop_dead(past, n, None, horizon, snapshots, known, &marks)
 }
 
 // Stamps beyond the horizon become known, the horizon moves, and dead past values go.

@@ -15,7 +15,7 @@ ghost use Rattle.reads.specs.Read.{Read};
 ghost use Rattle.reads.specs.Knows.{padded, Knows};
 
 use model::{Answer, Figures};
-use tables::{Copied, CopyTable, Disk, Found, Heads, PastTable, PendingTable, Snapshots};
+use tables::{Copied, CopyTable, Disk, Heads, PastTable, PendingTable, Snapshots};
 
 // Standing's answer, and its five figures.
 #[derive(Clone, Copy)]
@@ -53,8 +53,8 @@ fn show_page(
     ensures { (dated snapshots : List ℕ) → buffer.new ≡ page_as_of (contents disk.now dated pending.now past.now snapshots copies.now copied.now h) page s }
 {
     match tables::lookups::serving(copies, h.copies, page, s) {
-        Found::At(i) => views::sixteen(copied, 16 * i, buffer),
-        Found::Nothing => views::look_at(disk, pending, past, h, index, page, false, s, buffer),
+        Some(i) => views::sixteen(copied, 16 * i, buffer),
+        None => views::look_at(disk, pending, past, h, index, page, false, s, buffer),
     }
 }
 

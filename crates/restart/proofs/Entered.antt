@@ -1,4 +1,5 @@
 -- The index of the entries, made anew: 128 for each object, then each entry's row, where no two entries are of one object.
+use Rattle.std.specs.Prelude.{None}
 use Prim.Native.Nat.{ℕ, zero, suc, ◌+◌, ◌<◌, ◌≤◌}
 use mathlib.Core.Path.{◌≡◌, refl, ap, sym, ◌∙◌, subst}
 use mathlib.Core.List.{List, [], ◌∷◌}
@@ -9,7 +10,6 @@ use lib.Dec.{eqb, ltb}
 use borrow.Author.Tests.{eqb-true, eqb-false, ltb-true, ltb-false, eq-eqb, ne_eqb}
 use Rattle.model.specs.declared.Pending.{Pending}
 use Rattle.model.specs.Store.{none, some, lookup}
-use Rattle.tables.specs.declared.Found.TheVariants.{Nothing}
 use Rattle.tables.specs.Rows.{pending_of, pending_at}
 use Rattle.tables.specs.Lookups.{first_at, find_pending, row_of, Indexed}
 use Rattle.tables.proofs.Indexing.{index_more}
@@ -50,7 +50,7 @@ other (suc n) (x ∷ es) (suc i) o h l f e =
 
 -- so no entry before the i-th is of its object
 first_of : (n : ℕ) (es : List Pending) (i k : ℕ) → i < n → i < length es → Single (take n es)
-    → first_at (λ e. eqb e.object (pending_at es i).object) (take i es) k ≡ Nothing
+    → first_at (λ e. eqb e.object (pending_at es i).object) (take i es) k ≡ None
 first_of zero es i k h l s = absurd (omega arith)
 first_of (suc n) [] i k h l s = absurd (omega arith)
 first_of (suc n) (x ∷ es) zero k h l s = refl
@@ -69,6 +69,6 @@ module _ (es : List Pending) (n i : ℕ) (h : i < n) (l : i < length es) where
   pub entered : {index : List ℕ} → i < 128 → Single (take n es) → Indexed index (take i es) → (o : ℕ) → (pending_at es i).object ≡ o → o < 512
       → Indexed (set index o i) (take (i + 1) es)
   entered {index} small s x o e b =
-      let f : find_pending o (take i es) ≡ Nothing = subst (λ (p : ℕ). find_pending p (take i es) ≡ Nothing) e (first_of n es i 0 h l s) in
+      let f : find_pending o (take i es) ≡ None = subst (λ (p : ℕ). find_pending p (take i es) ≡ None) e (first_of n es i 0 h l s) in
       let r : get_or index o 0 ≡ 128 = x.row_at o b ∙ ap row_of f in
       index_more index es i l small x o e b (omega arith)

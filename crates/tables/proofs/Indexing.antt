@@ -1,4 +1,5 @@
 -- An index of the first i entries, with the next one entered.
+use Rattle.std.specs.Prelude.{Option, Some, None}
 use Prim.Native.Nat.{ℕ, zero, suc, ◌+◌, ◌<◌, ◌≤◌}
 use mathlib.Core.Path.{◌≡◌, refl, ap, ◌∙◌, sym}
 use mathlib.Core.Bool.{Bool, true, false}
@@ -11,19 +12,17 @@ use lib.Seq.{length-take-le, get_or-set_same, get_or-set_other}
 use lib.Dec.{eqb}
 use borrow.Author.Tests.{eqb-true, eqb-false, eq-eqb}
 use Rattle.model.specs.declared.Pending.{Pending}
-use Rattle.tables.specs.declared.Found.{Found}
-use Rattle.tables.specs.declared.Found.TheVariants.{At, Nothing}
 use Rattle.tables.specs.Rows.{pending_of, pending_at}
 use Rattle.tables.specs.Lookups.{pick_found, first_at, find_pending, row_of, Indexed}
 use Rattle.tables.proofs.Bridges.{found_below}
 use Rattle.tables.proofs.Cases.{by_test}
 
 -- what a search finds where one row more is looked at
-abbrev grown : Found → Bool → ℕ → Found
-grown (At j) b i = At j
-grown Nothing b i = pick_found b (At i) Nothing
+abbrev grown : Option ℕ → Bool → ℕ → Option ℕ
+grown (Some j) b i = Some j
+grown None b i = pick_found b (Some i) None
 
-grown_first : (b : Bool) (f : Found) (c : Bool) (k i : ℕ) → pick_found b (At k) (grown f c i) ≡ grown (pick_found b (At k) f) c i
+grown_first : (b : Bool) (f : Option ℕ) (c : Bool) (k i : ℕ) → pick_found b (Some k) (grown f c i) ≡ grown (pick_found b (Some k) f) c i
 grown_first true f c k i = refl
 grown_first false f c k i = refl
 
@@ -35,13 +34,13 @@ first_more f (x ∷ xs) (suc i) k d h =
     let e : suc k + i ≡ k + suc i = omega arith in
     rw (first_more f xs i (suc k) d (omega arith), e) (grown_first (f x) (first_at f (take i xs) (suc k)) (f (get_or xs i d)) k (k + suc i))
 
-pub by_found : {C : Type 0} (f : Found) → ((j : ℕ) → f ≡ At j → C) → (f ≡ Nothing → C) → C
-by_found (At j) f g = f j refl
-by_found Nothing f g = g refl
+pub by_found : {C : Type 0} (f : Option ℕ) → ((j : ℕ) → f ≡ Some j → C) → (f ≡ None → C) → C
+by_found (Some j) f g = f j refl
+by_found None f g = g refl
 
-grown_not : (f : Found) (i : ℕ) → grown f false i ≡ f
-grown_not (At j) i = refl
-grown_not Nothing i = refl
+grown_not : (f : Option ℕ) (i : ℕ) → grown f false i ≡ f
+grown_not (Some j) i = refl
+grown_not None i = refl
 
 -- what stands in a list does not depend on what stands for the rest
 pub any_default : (l : List ℕ) (i d e : ℕ) → i < length l → get_or l i d ≡ get_or l i e
@@ -56,7 +55,7 @@ module _ (index : List ℕ) (es : List Pending) (i : ℕ) (h : i < length es) (s
   found_more : (o : ℕ) → find_pending o (take (i + 1) es) ≡ grown (find_pending o (take i es)) (eqb (pending_at es i).object o) i
   found_more o = rw (add-one, first_more (λ e. eqb e.object o) es i 0 (pending_of []) h, zero-add)
 
-  unmet : (o : ℕ) → o < 512 → 128 ≤ get_or index o 0 → find_pending o (take i es) ≡ Nothing
+  unmet : (o : ℕ) → o < 512 → 128 ≤ get_or index o 0 → find_pending o (take i es) ≡ None
   unmet o l g =
       by_found (find_pending o (take i es))
       (λ j f.

@@ -70,12 +70,6 @@ pub struct CopyHead {
     pub stamp: u64,
 }
 
-#[derive(Clone, Copy)]
-pub enum Found {
-    At(usize),
-    Nothing,
-}
-
 pub fn pending_at(t: &PendingTable, i: usize) -> Pending
     requires { i < 128 }
     ensures { result ≡ pending_at (pendings t.now) i }

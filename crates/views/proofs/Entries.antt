@@ -1,4 +1,5 @@
 -- A slot's word after the entries are laid, by the row that the index tells for the slot's object.
+use Rattle.std.specs.Prelude.{Option, Some, None}
 use Prim.Native.Nat.{ℕ, ◌≤◌, ◌<◌}
 use mathlib.Core.Path.{◌≡◌, refl, ap, sym, ◌∙◌}
 use mathlib.Core.Bool.{false}
@@ -9,8 +10,6 @@ use lib.Dec.{leb}
 use Rattle.model.specs.declared.Pending.{Pending}
 use Rattle.model.specs.Lists.{either, pick, twice_b}
 use Rattle.model.specs.Store.{none, some, object_at, slot_of, lookup, pending_seen}
-use Rattle.tables.specs.declared.Found.{Found}
-use Rattle.tables.specs.declared.Found.TheVariants.{At, Nothing}
 use Rattle.tables.specs.Rows.{pending_at}
 use Rattle.tables.specs.Lookups.{find_pending, row_of, Indexed}
 use Rattle.tables.proofs.Bridges.{found_row, lookup_row, lookup_none}
@@ -21,13 +20,13 @@ use Rattle.views.proofs.Words.{entry_or, entry_word}
 
 -- ---- a row below n is the object's entry, and any other tells that it has none
 module _ (o : ℕ) (es : List Pending) (n : ℕ) (l : n ≤ length es) where
-  found_entry : (f : Found) → find_pending o (take n es) ≡ f → n ≤ 128 → row_of f < n → lookup o (take n es) ≡ some (pending_at es (row_of f))
-  found_entry (At i) e m h = lookup_row o es n i l e
-  found_entry Nothing e m h = absurd (omega arith)
+  found_entry : (f : Option ℕ) → find_pending o (take n es) ≡ f → n ≤ 128 → row_of f < n → lookup o (take n es) ≡ some (pending_at es (row_of f))
+  found_entry (Some i) e m h = lookup_row o es n i l e
+  found_entry None e m h = absurd (omega arith)
 
-  found_none : (f : Found) → find_pending o (take n es) ≡ f → n ≤ row_of f → lookup o (take n es) ≡ none
-  found_none (At i) e h = absurd (omega (arith, found_row o es n i l e))
-  found_none Nothing e h = lookup_none o (take n es) e
+  found_none : (f : Option ℕ) → find_pending o (take n es) ≡ f → n ≤ row_of f → lookup o (take n es) ≡ none
+  found_none (Some i) e h = absurd (omega (arith, found_row o es n i l e))
+  found_none None e h = lookup_none o (take n es) e
 
 module _ (v : View) (k : ℕ) (h : k < 16) (p : v.page < 32) {index : List ℕ} (es : List Pending) (n : ℕ) (x : Indexed index (take n es))
     (t : twice_b (map (λ e. e.object) (take n es)) ≡ false) (m : n ≤ 128) (l : n ≤ length es) (out : List ℕ) (g : length out ≡ 16) where

@@ -3,17 +3,17 @@ use mathlib.Core.Path.{◌∙◌}
 use Rattle.reads.proofs.Served.{shown_served, shown_looked}
 use Rattle.reads.proofs.show_page.Goals as goal
 
-pub returns-in-At : goal.returns-in-At
-returns-in-At c dated snapshots =
+pub returns-in-Some : goal.returns-in-Some
+returns-in-Some c dated snapshots =
     let a = c.args in
     let p = c.requires.copies_bound in
     c.sixteen.ensures
     ∙ shown_served a.disk.now dated a.pending.now a.past.now snapshots a.copies.now a.copied.now a.h a.page a.s p.0 p.1 p.2
-    c.in-At.i c.in-At.ensures
+    c.in-Some.i c.in-Some.ensures
 
-pub returns-in-Nothing : goal.returns-in-Nothing
-returns-in-Nothing c dated snapshots =
+pub returns-in-None : goal.returns-in-None
+returns-in-None c dated snapshots =
     let a = c.args in
     let p = c.requires.copies_bound in
     c.look_at.ensures dated snapshots a.copies.now a.copied.now
-    ∙ shown_looked a.disk.now dated a.pending.now a.past.now snapshots a.copies.now a.copied.now a.h a.page a.s p.0 p.1 c.in-Nothing.ensures
+    ∙ shown_looked a.disk.now dated a.pending.now a.past.now snapshots a.copies.now a.copied.now a.h a.page a.s p.0 p.1 c.in-None.ensures

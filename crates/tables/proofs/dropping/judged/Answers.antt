@@ -8,6 +8,7 @@ use lib.ListN.{take, drop, length-set, length-map, length-drop, get_or-map}
 use lib.Seq.{get_or-drop}
 use Rattle.tables.specs.Rows.{pasts}
 use Rattle.tables.specs.Lookups.{last_before}
+use Rattle.tables.proofs.Rows.{pasts_length}
 use Rattle.tables.proofs.Cases.{clash}
 use Rattle.tables.proofs.Compacts.{no_past, copied}
 use Rattle.tables.proofs.dropping.judged.Invariants.{test}
@@ -23,8 +24,8 @@ searched c =
     let last = λ (u : ℕ). last_before (take c.args.known c.args.snapshots.now) u in
     elim c.if-in_scope.branch [
       | then-in_scope+then-q-until w ↦ let e = w.s-is ∙ w.last_before-s.ensures in (e ∙ ap last (sym w.until-is), λ _. e)
-      | then-in_scope+else-q-until w ↦ let e = w.s-is ∙ v.invariant.3 in (e ∙ ap last (sym w.until-is), λ _. e ∙ ap last (sym w.if-q-until.false))
-      | else-in_scope w ↦ (w.s-is ∙ v.invariant.3 ∙ ap last (sym w.until-is), λ t. clash (sym t ∙ w.if-in_scope.false))
+      | then-in_scope+else-q-until w ↦ let e = w.s-is ∙ v.invariant.2 in (e ∙ ap last (sym w.until-is), λ _. e ∙ ap last (sym w.if-q-until.false))
+      | else-in_scope w ↦ (w.s-is ∙ v.invariant.2 ∙ ap last (sym w.until-is), λ t. clash (sym t ∙ w.if-in_scope.false))
     ]
 
 pub loop-i-preserved : goal.loop-i-preserved
@@ -39,8 +40,7 @@ loop-i-preserved c =
     let w = searched (goal.at.loop-i-preserved c).Joined-in_scope in
     let q = p.ensures ∙ sym (get_or-drop a.from ps v.i no_past) in
     let e = c.stays.ensures (take a.known a.snapshots.now) (λ t. w.1 (s.ensures ∙ t)) ∙ ap f q ∙ sym (get_or-map f qs v.i no_past) in (
-      omega arith,
-      simp length-set v.invariant.1,
-      copied v.stay (map f qs) v.i (f no_past) c.stays.result (omega arith) (omega (arith, length-map qs f, length-drop a.from ps)) v.invariant.2 e,
+      simp length-set v.invariant.0,
+      copied v.stay (map f qs) v.i (f no_past) c.stays.result (omega arith) (omega (arith, length-map qs f, length-drop a.from ps, pasts_length a.t.now 256 (omega arith))) v.invariant.1 e,
       w.0,
     )
