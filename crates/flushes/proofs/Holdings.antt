@@ -1,6 +1,6 @@
 -- The store before a flush, by the counts; what a look at it asks; and its past after the flush.
 use Prim.Native.Nat.{ℕ, ◌+◌}
-use mathlib.Core.Path.{◌≡◌, ap, sym, ◌∙◌, subst}
+use mathlib.Core.Path.{◌≡◌, refl, ap, sym, ◌∙◌, subst}
 use mathlib.Core.Bool.{true}
 use mathlib.Core.List.{List, ◌++◌}
 use lib.ListN.{length, take, length-append, length-map}
@@ -11,8 +11,10 @@ use Rattle.model.specs.Changes.{dues, flush_store}
 use Rattle.tables.specs.declared.Store as tables
 use Rattle.tables.specs.Rows.{pendings, pasts}
 use Rattle.tables.specs.Contents.{stored}
+use Rattle.tables.proofs.Rows.{pendings_length, pasts_length}
 use Rattle.tables.proofs.Counts.{taken, contents_taken}
-use Rattle.views.specs.Views.{LookableAnew, Lookable}
+use Rattle.views.specs.Views.{LookableAnew}
+use Rattle.views.proofs.Sights.{Sized}
 use Rattle.shares.specs.Many.{Ordered}
 use Rattle.shares.proofs.Orders.{rising_ordered}
 use Rattle.flushes.specs.Promises.{Whole, ReadyAnew, Listed}
@@ -39,16 +41,10 @@ module _ (store : tables.Store) (page : ℕ) (a : ReadyAnew store page) where
   ruled m = record { known_count = a.counted.snapshot_count; in_range = a.in_range; rising = a.rising }
 
   module _ (k : Whole store) where
-    pub lookable : Lookable store.written.disk store.written.dated store.written.pending store.written.past store.heads page
-    lookable = record {
-      value_words = k.value_words;
-      stamp_words = k.stamp_words;
-      pending_rows = k.pending_rows;
-      past_rows = k.past_rows;
-      pending_count = a.counted.pending_count;
-      past_count = a.counted.past_count;
-      in_range = a.in_range;
-      single = a.single;
+    pub sized : Sized store.written
+    sized = record {
+      pending_rows = sym (pendings_length store.written.pending _ refl) ∙ k.pending_rows;
+      past_rows = sym (pasts_length store.written.past _ refl) ∙ k.past_rows;
     }
 
     pub same : stored store ≡ counted store

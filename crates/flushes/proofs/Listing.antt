@@ -21,11 +21,12 @@ use Rattle.tables.proofs.Cases.{by_test}
 use Rattle.tables.proofs.Searches.{drop_end}
 use Rattle.views.specs.declared.ViewAnew.{ViewAnew}
 use Rattle.views.specs.declared.Word.TheVariants.{Age}
-use Rattle.views.specs.Views.{viewed_anew, Lookable}
-use Rattle.shares.specs.Lulls.{Lull, Still, StillAnew}
+use Rattle.views.specs.Views.{viewed_anew, LookableAnew}
+use Rattle.views.proofs.Sights.{Sized}
+use Rattle.shares.specs.Lulls.{Lull, StillAnew}
 use Rattle.shares.specs.Many.{FirstFrom, Pages, page_at_anew}
 use Rattle.shares.proofs.Laying.{both_not}
-use Rattle.shares.proofs.Lulls.{still_slot}
+use Rattle.shares.proofs.Lulls.{still_slot_anew}
 use Rattle.shares.proofs.Orders.{rising_at, first_inside, first_before, first_behind}
 use Rattle.flushes.specs.Parts.{seen_in, next_view, due_seen, dues_seen, Telling, ListedTo}
 use Rattle.flushes.proofs.Turns.{next_row}
@@ -116,15 +117,14 @@ unfolding some_slot
 no_slot f h = none_below 16 f h
 
 -- at or behind the newest stamp up to a bound, with the next one no later than the bound
-due_quiet : (w : Written) (h : Heads) (p : ℕ) → Lookable w.disk w.dated w.pending w.past h p
+due_quiet : (w : Written) (h : Heads) (p : ℕ) → Sized w → LookableAnew w h p
     → {newest bound : ℕ} → StillAnew w h p (record { from = newest; until = bound + 1 }) → ((k : ℕ) → k < 16 → get_or w.dated (object_at p k) 0 ≤ newest)
     → (m s n : ℕ) (ns : List ℕ) → newest ≤ s → n ≤ bound → due_seen (seen_in w h) p m s (n ∷ ns) ≡ false
-due_quiet w h p a {newest} {bound} q d m s n ns b u =
+due_quiet w h p z a {newest} {bound} q d m s n ns b u =
     let l : Lull = record { from = newest; until = bound + 1 } in
-    let t : Still w.pending w.past h p l = record { entries = q.entries; past_rows = q.past_rows } in
     sym (both_not (ltb m s) _
     (no_slot (λ k. ltb s (viewed_anew (seen_in w h) (next_view p (n ∷ ns)) (object_at p k)))
-    (λ k z. le-ltb s _ (still_slot p n w.disk w.dated w.pending w.past h a l t s b (omega arith) k z (omega (arith, d k z))))))
+    (λ k i. le-ltb s _ (still_slot_anew p n w h z a l q s b (omega arith) k i (omega (arith, d k i))))))
 
 -- ---- a stretch of snapshots none of which is due
 module _ (st : Store) (p m : ℕ) (l : List ℕ) (n : ℕ) (b : n ≤ length l) where
@@ -153,7 +153,7 @@ none_due st p m l n b f =
     sym (dues_behind st p m l n n b (omega arith) f ∙ ap (dues_seen st p m) (drop_end n l n (omega arith)))
 
 -- none from the newest stamp to the last snapshot, the one at e
-module _ (w : Written) (h : Heads) (p : ℕ) (a : Lookable w.disk w.dated w.pending w.past h p) (l : List ℕ) (n e : ℕ) (q : e + 1 ≡ n) (b : n ≤ length l) (u : rising_from 0 (take n l) ≡ true) where
+module _ (w : Written) (h : Heads) (p : ℕ) (sz : Sized w) (a : LookableAnew w h p) (l : List ℕ) (n e : ℕ) (q : e + 1 ≡ n) (b : n ≤ length l) (u : rising_from 0 (take n l) ≡ true) where
   pub dues_to_last : (m : ℕ) {newest low high : ℕ} → StillAnew w h p (record { from = newest; until = get_or l e 0 + 1 })
       → ((k : ℕ) → k < 16 → get_or w.dated (object_at p k) 0 ≤ newest) → FirstFrom (take e l) (m + 1) low → FirstFrom (take e l) newest high
       → (found : List ℕ) → ListedTo (seen_in w h) p m (take n l) low (max low high) found
@@ -169,7 +169,7 @@ module _ (w : Written) (h : Heads) (p : ℕ) (a : Lookable w.disk w.dated w.pend
       (λ i r z.
       let more : i + 1 < n = omega arith in
       ap (due_seen st p m (get_or l i 0)) (next_row l n (i + 1) 0 more b)
-      ∙ due_quiet w h p a t d m (get_or l i 0) (get_or l (i + 1) 0) (drop (i + 1 + 1) (take n l)) (first_behind e l c g i (omega arith) z) (rising_at n l u b (i + 1) e (omega arith) (omega arith)))))
+      ∙ due_quiet w h p sz a t d m (get_or l i 0) (get_or l (i + 1) 0) (drop (i + 1 + 1) (take n l)) (first_behind e l c g i (omega arith) z) (rising_at n l u b (i + 1) e (omega arith) (omega arith)))))
       ∙ v
       ∙ sym (dues_behind st p m l n low b (omega arith) (λ i r. omega (arith, first_before e l c f i r)))
 

@@ -14,12 +14,9 @@ use Rattle.tables.specs.Rows.{pasts}
 use Rattle.tables.proofs.Cases.{by_test}
 use Rattle.tables.proofs.Searches.{both_left}
 use Rattle.shares.specs.Shares.{row_of_page, rows_at, NumberedAnew}
+use Rattle.shares.proofs.Numbers.{numbered_count_anew}
 use Rattle.flushes.specs.declared.rows.Rule.{Rule}
 use Rattle.flushes.specs.Parts.{stays_under, leaves_under, Holding}
-use Rattle.flushes.proofs.Turns.{rows_length}
-
-pub numbered_count : {A : Type 0} {d : A} {f : A → Bool} {l : List A} {n : ℕ} {ns : List ℕ} → NumberedAnew d f l n ns → length ns ≡ length (kept f (take n l))
-numbered_count {d = d} {l = l} {ns = ns} a = sym (rows_length d l ns) ∙ ap length a.rows
 
 module _ {A : Type 0} (f : A → Bool) where
   kept_again : (g : A → Bool) → ((x : A) → f x ≡ true → g x ≡ true) → (l : List A) → kept f (kept g l) ≡ kept f l
@@ -60,7 +57,7 @@ module _ (snapshots : List ℕ) (rule : Rule) where
       → n - length ns + length (kept (stays_under snapshots rule) (rows_at d l ns)) ≡ length (kept (stays_under snapshots rule) (take n l))
   staying_start {d} {l} {n} {ns} a h =
       rw a.rows
-      (omega (arith, numbered_count a, others_kept (stays_under snapshots rule) (row_of_page rule.page) other_stays (take n l), length-take-le n l h, kept_fewer (row_of_page rule.page) (take n l)))
+      (omega (arith, numbered_count_anew a, others_kept (stays_under snapshots rule) (row_of_page rule.page) other_stays (take n l), length-take-le n l h, kept_fewer (row_of_page rule.page) (take n l)))
 
   pub all_stay : {past : List (List ℕ)} {n r : ℕ} → n ≤ length (pasts past) → r ≡ length (kept (stays_under snapshots rule) (take n (pasts past))) → r ≡ n
       → Holding past n (kept (stays_under snapshots rule) (take n (pasts past)))
@@ -83,4 +80,4 @@ module _ (disk dated snapshots : List ℕ) (rule : Rule) where
   pub leaving_few : {d : Pending} {l : List Pending} {n : ℕ} {ns : List ℕ} → NumberedAnew d (of_page rule.page) l n ns
       → length (kept (leaves_under disk dated snapshots rule) (take n l)) ≤ length ns
   leaving_few {d} {l} {n} {ns} a =
-      omega (arith, rows_length d l ns, ap length (leaving_start a), kept_fewer (leaves_under disk dated snapshots rule) (rows_at d l ns))
+      omega (arith, numbered_count_anew a, ap length a.rows, ap length (leaving_start a), kept_fewer (leaves_under disk dated snapshots rule) (rows_at d l ns))

@@ -9,6 +9,7 @@ use lib.ListN.{drop_of_length-le, length, take, drop, get_or, set, length-append
 use lib.Seq.{drop-cons, slice-cons, take-suc-set, length-take-le}
 use Rattle.model.specs.Lists.{both, kept}
 use Rattle.shares.specs.Shares.{rows_at}
+use Rattle.shares.proofs.Numbers.{rows_next}
 use Rattle.tables.proofs.Cases.{by_test}
 
 module _ {A : Type 0} where
@@ -33,14 +34,6 @@ kept_mapped f g b [] = refl
 kept_mapped f g b (x ∷ xs) =
     let ih = kept_mapped f g b xs in
     by_test (g x) (λ e. by_test (f (b x)) (λ q. rw (e, q, ih)) (λ q. rw (e, q, ih))) (λ e. rw (e, ih))
-
--- ---- the rows that a list of numbers names
-rows_next : {A : Type 0} (d : A) (l : List A) (ns : List ℕ) (i : ℕ) → i < length ns → rows_at d l (drop i ns) ≡ get_or l (get_or ns i 0) d ∷ rows_at d l (drop (i + 1) ns)
-rows_next d l ns i h = ap (rows_at d l) (next ns i 0 h)
-
-pub rows_length : {A : Type 0} (d : A) (l : List A) (ns : List ℕ) → length (rows_at d l ns) ≡ length ns
-rows_length d l [] = refl
-rows_length d l (i ∷ is) = ap suc (rows_length d l is)
 
 -- ---- k counted before the number at i, t of all
 module _ {A : Type 0} (d : A) (f : A → Bool) (l : List A) (ns : List ℕ) (i k : ℕ) {t : ℕ} (v : k + length (kept f (rows_at d l (drop i ns))) ≡ t)

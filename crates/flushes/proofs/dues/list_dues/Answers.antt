@@ -42,7 +42,7 @@ listed c =
     let n = s.heads.snapshots in
     let w = c.newest_up_to_anew-newest.ensures in
     let f = c.first_from-low.ensures in
-    dues_to_last s.written s.heads a.page (lookable s a.page c.requires.ready c.whole.ensures) l n (n - 1) (some c) (inside c) c.requires.ready.rising a.marked w.still w.by_index f c.first_from-high.ensures (found c)
+    dues_to_last s.written s.heads a.page (sized s a.page c.requires.ready c.whole.ensures) (looks s a.page c.requires.ready) l n (n - 1) (some c) (inside c) c.requires.ready.rising a.marked w.still w.by_index f c.first_from-high.ensures (found c)
     (c.list_between.ensures.by_index a.marked (λ j q r. omega (arith, first_behind (n - 1) l (omega (arith, inside c)) f j q (omega (arith, first_inside (n - 1) l (omega (arith, inside c)) c.first_from-high.ensures)))))
 
 -- the current ages tell whether the last one is due
