@@ -1,6 +1,13 @@
 // A commit without its journal: judged over the tables, then written to them. Restart uses both as they stand.
 #![tactic(auto)]
 
+pub mod fitting;
+mod judging;
+mod applying;
+
+pub use judging::{judge_commit_anew, judge_with_room_anew};
+pub use applying::{add_all_anew, apply_commit_anew};
+
 ghost use Rattle.std.specs.Prelude.{◌≡◌, true, false, List, map, ℕ, ◌+◌, ◌≤◌, ◌<◌, max, length, take, leb};
 ghost use Rattle.model.specs.declared.Pending.{Pending};
 ghost use Rattle.model.specs.Lists.{both, rising_from, twice_b};

@@ -15,8 +15,9 @@ use Rattle.model.specs.Records.{encode}
 use Rattle.model.specs.Coordinator.{Coordinator, fresh_coordinator, coordinator_damaged, stamps_in, curr_of, message_for, message_answer, message}
 use Rattle.model.specs.Exchange.{Requested, no_request, request, served}
 use Rattle.journal.specs.Places.{Moved}
-use Rattle.requests.specs.declared.Asked.TheVariants.{Nothing, For}
+use Rattle.std.specs.Prelude.{Some, None}
 use Rattle.requests.specs.Asking.{asked}
+use Rattle.requests.specs.declared.Request.{Request}
 use Rattle.coordinator.specs.States.{held, Wrote}
 use Rattle.coordinator.specs.Messages.{Speaks, Told}
 use Rattle.coordinator.proofs.States.{none_both}
@@ -68,15 +69,19 @@ module _ (k : Coordinator) (prev clock : ℕ) (buffer : List ℕ) where
 
 -- ---- a request's
 module _ (k : Coordinator) (buffer : List ℕ) where
-  pub serve_for : (q : Requested) (from to : ℕ) {a : Answer} {k' : Coordinator} {buffer' : List ℕ} → For from to ≡ asked q
+  pub serve_for : (q : Requested) (from to : ℕ) {a : Answer} {k' : Coordinator} {buffer' : List ℕ} → Some (record { from = from; to = to }) ≡ asked q
       → Wrote (message k from to buffer) a k' buffer' → Wrote (served q k buffer) a k' buffer'
-  serve_for no_request from to e w = let z : ◌≡◌ {A = ℕ} 0 1 = cc in absurd (omega arith)
-  serve_for (request f t) from to e w = let a : f ≡ from = cc in let b : t ≡ to = cc in rw (a, b) w
+  serve_for no_request from to e w = absurd (cc)
+  serve_for (request f t) from to e w =
+      let r : ◌≡◌ {A = Request} (record { from = f; to = t }) (record { from = from; to = to }) = cc in
+      let a : f ≡ from = ap (λ (r : Request). r.from) r in
+      let b : t ≡ to = ap (λ (r : Request). r.to) r in
+      rw (a, b) w
 
-  pub serve_damaged : (q : Requested) → Nothing ≡ asked q → coordinator_damaged k ≡ true → Wrote (served q k buffer) Damaged k buffer
+  pub serve_damaged : (q : Requested) → None ≡ asked q → coordinator_damaged k ≡ true → Wrote (served q k buffer) Damaged k buffer
   serve_damaged no_request e d = rw d (record { answered = refl; holds = refl; filled = refl })
-  serve_damaged (request f t) e d = let z : ◌≡◌ {A = ℕ} 0 1 = cc in absurd (omega arith)
+  serve_damaged (request f t) e d = absurd (cc)
 
-  pub serve_none : (q : Requested) → Nothing ≡ asked q → coordinator_damaged k ≡ false → Wrote (served q k buffer) (Malformed 0) k buffer
+  pub serve_none : (q : Requested) → None ≡ asked q → coordinator_damaged k ≡ false → Wrote (served q k buffer) (Malformed 0) k buffer
   serve_none no_request e d = rw d (record { answered = refl; holds = refl; filled = refl })
-  serve_none (request f t) e d = let z : ◌≡◌ {A = ℕ} 0 1 = cc in absurd (omega arith)
+  serve_none (request f t) e d = absurd (cc)

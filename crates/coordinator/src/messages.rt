@@ -9,7 +9,7 @@ ghost use Rattle.coordinator.specs.Messages.{Parted, Speaks, Told};
 use crate::State;
 use journal::place::Place;
 use model::Answer;
-use requests::Asked;
+use requests::Request;
 
 // What a message says to its sender: its length in bytes and its curr.
 #[derive(Clone, Copy)]
@@ -106,9 +106,9 @@ pub fn message(state: &mut State, prev: u64, clock: u64, buffer: &mut [u8]) -> A
 pub fn serve(state: &mut State, request: &[u8], buffer: &mut [u8]) -> Answer
     ensures { Wrote (exchange.serve (held state.old) request.now buffer.old) result (held state.new) buffer.new }
 {
-    match requests::read(request) {
-        Asked::For(from, to) => message(state, from, to, buffer),
-        Asked::Nothing => {
+    match Request::read(request) {
+        Some(Request { from, to }) => message(state, from, to, buffer),
+        None => {
             if crate::damaged(state) {
                 return Answer::Damaged;
             }

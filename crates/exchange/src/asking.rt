@@ -1,10 +1,11 @@
 // A request for the stamps that a store missed.
 ghost use Rattle.model.specs.Exchange as model;
-ghost use Rattle.tables.specs.Contents.{contents};
+ghost use Rattle.tables.specs.Contents.{contents, stored};
 ghost use Rattle.reads.specs.Read.{Read};
 
 use model::Answer;
-use tables::{Copied, CopyTable, Disk, Heads, PastTable, PendingTable, Snapshots};
+use requests::Request;
+use tables::{Copied, CopyTable, Disk, Heads, PastTable, PendingTable, Snapshots, Store};
 
 // The request from the horizon to a stamp, at the buffer's front.
 pub fn ask(
@@ -31,6 +32,28 @@ pub fn ask(
     if to < h.horizon {
         return Answer::Shape;
     }
-    requests::write(buffer, h.horizon, to);
+    let request = Request {
+        from: h.horizon,
+        to,
+    };
+    request.write(buffer);
     Answer::Done(19)
+}
+
+// The request from the horizon to a stamp, at the buffer's front.
+pub fn ask_anew(store: &Store, to: u64, buffer: &mut [u8]) -> Answer
+    ensures { Read (model.ask (stored store.now) to buffer.old) result buffer.new }
+{
+    ask(
+        &store.written.disk,
+        &store.written.dated,
+        &store.written.pending,
+        &store.written.past,
+        &store.snapshots,
+        &store.copies,
+        &store.copied,
+        store.heads,
+        to,
+        buffer,
+    )
 }

@@ -2,15 +2,16 @@
 ghost use Rattle.std.specs.Prelude.{◌≡◌, true, ◌≤◌, ◌+◌, ◌*◌, length, take, drop};
 ghost use Rattle.model.specs.Bytes.{from_be, column};
 ghost use Rattle.model.specs.Exchange as model;
-ghost use Rattle.tables.specs.Contents.{contents};
+ghost use Rattle.tables.specs.Contents.{contents, stored};
 ghost use Rattle.changes.specs.Left.{Left};
+ghost use Rattle.changes.specs.Kept.{GossipKept};
 ghost use Rattle.exchange.specs.Messages.{framed_b, Spoken};
 
-use changes::settling::Changed;
+use changes::settling::{Changed, ChangedAnew};
 use journal::place::{COUNT_AT, CURR_AT, KIND_AT, PREV_AT, Place, STAMPS_AT};
 use journal::walk::GossipHead;
 use model::Answer;
-use tables::{Copied, CopyTable, Disk, Heads, PastTable, PendingTable, Snapshots};
+use tables::{Copied, CopyTable, Disk, Heads, PastTable, PendingTable, Snapshots, Store};
 
 // The number of eight bytes, read as two of four: the compiler makes one load of it.
 fn word_at(bytes: &[u8], at: usize) -> u64
@@ -125,5 +126,35 @@ pub fn hear(
         heads,
         answer,
         place,
+    }
+}
+
+// What the bytes tell is taken as gossip is, in the same order; bytes that are no message are refused before the journal's shape is asked.
+pub fn hear_anew(
+    store: &mut Store,
+    journal: &mut [u8],
+    used: Place,
+    message: &[u8],
+) -> ChangedAnew
+    ensures left { Left (model.hear (stored store.old) journal.old used.at message.now) result.answer (stored store.new) journal.new result.place.at }
+    ensures kept { GossipKept store.old store.new }
+{
+    let c = hear(
+        &store.written.disk,
+        &store.written.dated,
+        &store.written.pending,
+        &mut store.written.past,
+        &mut store.snapshots,
+        &store.copies,
+        &store.copied,
+        store.heads,
+        journal,
+        used,
+        message,
+    );
+    store.heads = c.heads;
+    ChangedAnew {
+        answer: c.answer,
+        place: c.place,
     }
 }

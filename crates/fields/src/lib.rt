@@ -10,12 +10,10 @@ pub fn put_be(j: &mut [u8], at: usize, width: usize, x: u64)
     requires { at + width ≤ length j.old }
     ensures { j.new ≡ write_at at (be width x) j.old }
 {
-    let mut k = width;
     let mut y = x;
-    while 0 < k {
-        k -= 1;
+    for k in (0..width).rev() {
         j[at + k] = (y % 256) as u8;
-        y = y / 256;
+        y /= 256;
     }
 }
 
@@ -25,10 +23,8 @@ pub fn get_be(s: &[u8], at: usize, width: usize) -> u64
     ensures { result ≡ from_be (take width (drop at s.now)) }
 {
     let mut a: u64 = 0;
-    let mut i: usize = 0;
-    while i < width {
-        a = a * 256 + (s[at + i] as u64);
-        i += 1;
+    for byte in &s[at..at + width] {
+        a = a * 256 + u64::from(*byte);
     }
     a
 }
@@ -38,9 +34,7 @@ pub fn get_column(s: &[u8], at: usize, stride: usize, width: usize, out: &mut [u
     requires { (at + stride * length out.old + width ≤ length s.now + stride) × (width ≤ 8) }
     ensures { out.new ≡ column width stride (length out.old) (drop at s.now) }
 {
-    let mut i: usize = 0;
-    while i < out.len() {
-        out[i] = get_be(s, at + stride * i, width);
-        i += 1;
+    for (i, number) in out.iter_mut().enumerate() {
+        *number = get_be(s, at + stride * i, width);
     }
 }

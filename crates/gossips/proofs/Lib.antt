@@ -4,3 +4,4 @@ pub mod Comparing
 pub mod Saying
 pub mod Judged
 pub mod Applying
+pub mod Whole

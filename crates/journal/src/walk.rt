@@ -1,51 +1,62 @@
 // What stands at a place of the journal. A record is told by its head; the rows of its list stay where they are.
-ghost use Rattle.std.specs.Prelude.{◌≡◌, not, ◌≤◌, ◌+◌, ◌*◌, length, drop};
+ghost use Rattle.std.specs.Prelude.{◌≡◌, not, ◌<◌, ◌≤◌, ◌+◌, ◌*◌, ◌^◌, length, drop, MatchOption};
 ghost use Rattle.model.specs.Lists.{both, twice_b};
 ghost use Rattle.model.specs.Bytes.{column};
 ghost use Rattle.model.specs.Judgement.{objects_shaped, stamps_shaped};
 ghost use Rattle.model.specs.Records.{commit_in, gossip_in, flush_in, checked, decode, step_at};
 ghost use Rattle.journal.specs.Heads.{head_decoded, head_step};
+ghost use Rattle.journal.specs.Counts.{Counted, Uncounted};
 
+use crate::kind::Kind;
 use crate::place::Place;
 
-#[derive(Clone, Copy)]
+#[derive(Clone, Copy, PartialEq, Eq, Debug)]
 pub struct CommitHead {
     pub stamp: u64,
     pub count: usize,
 }
 
-#[derive(Clone, Copy)]
+#[derive(Clone, Copy, PartialEq, Eq, Debug)]
 pub struct GossipHead {
     pub prev: u64,
     pub curr: u64,
     pub count: usize,
 }
 
-#[derive(Clone, Copy)]
+#[derive(Clone, Copy, PartialEq, Eq, Debug)]
 pub struct FlushHead {
     pub page: u64,
 }
 
-#[derive(Clone, Copy)]
+#[derive(Clone, Copy, PartialEq, Eq, Debug)]
 pub enum Record {
     Commit(CommitHead),
     Gossip(GossipHead),
     Flush(FlushHead),
 }
 
-#[derive(Clone, Copy)]
-pub enum Decoded {
-    Good(Record),
-    Bad,
-}
-
 // What the walk finds: the journal's end, a record whose bytes aren't all there, a malformed one at an offset, or a whole one.
-#[derive(Clone, Copy)]
+#[derive(Clone, Copy, PartialEq, Eq, Debug)]
 pub enum Step {
     End,
     Short,
     Malformed(usize),
     Whole { record: Record, next: Place },
+}
+
+// How many rows of so many bytes a body has behind its front, whose last byte tells it: at most sixteen, and the body ends with them.
+fn rows(body: &[u8], front: usize, row: usize) -> Option<usize>
+    requires { (0 < front) × (front + 16 * row < 2 ^ 64) }
+    ensures { MatchOption result (Uncounted body.now front row) (Counted body.now front row) }
+{
+    let count = usize::from(*body.get(front - 1)?);
+    if 16 < count {
+        return None;
+    }
+    if body.len() != front + row * count {
+        return None;
+    }
+    Some(count)
 }
 
 // The objects of a commit's body keep the Shape and Twice rules.
@@ -60,10 +71,7 @@ fn objects_good(body: &[u8], count: usize) -> bool
     let mut room = [0u64; 16];
     fields::get_column(body, 9, 10, 2, &mut room[..count]);
     let objects = &room[..count];
-    if !rules::objects_shaped(objects) {
-        return false;
-    }
-    !rules::named_twice(objects)
+    rules::objects_shaped(objects) && !rules::named_twice(objects)
 }
 
 fn stamps_good(body: &[u8], count: usize, prev: u64, curr: u64) -> bool
@@ -76,68 +84,51 @@ fn stamps_good(body: &[u8], count: usize, prev: u64, curr: u64) -> bool
 }
 
 // Each reads a body, the part of the journal behind a kind byte.
-fn read_commit(body: &[u8]) -> Decoded
+fn read_commit(body: &[u8]) -> Option<Record>
     ensures { result ≡ head_decoded (checked (length body.now + 1) (commit_in body.now)) }
 {
-    if body.len() < 9 {
-        return Decoded::Bad;
-    }
-    let count = body[8] as usize;
-    if 16 < count {
-        return Decoded::Bad;
-    }
-    if body.len() != 9 + 10 * count {
-        return Decoded::Bad;
-    }
+    let count = rows(body, 9, 10)?;
     let stamp = fields::get_be(body, 0, 8);
-    if objects_good(body, count) {
-        return Decoded::Good(Record::Commit(CommitHead { stamp, count }));
+    if !objects_good(body, count) {
+        return None;
     }
-    Decoded::Bad
+    Some(Record::Commit(CommitHead { stamp, count }))
 }
 
-fn read_gossip(body: &[u8]) -> Decoded
+fn read_gossip(body: &[u8]) -> Option<Record>
     ensures { result ≡ head_decoded (checked (length body.now + 1) (gossip_in body.now)) }
 {
-    if body.len() < 17 {
-        return Decoded::Bad;
-    }
-    let count = body[16] as usize;
-    if 16 < count {
-        return Decoded::Bad;
-    }
-    if body.len() != 17 + 8 * count {
-        return Decoded::Bad;
-    }
+    let count = rows(body, 17, 8)?;
     let prev = fields::get_be(body, 0, 8);
     let curr = fields::get_be(body, 8, 8);
-    if stamps_good(body, count, prev, curr) {
-        return Decoded::Good(Record::Gossip(GossipHead { prev, curr, count }));
+    if !stamps_good(body, count, prev, curr) {
+        return None;
     }
-    Decoded::Bad
+    Some(Record::Gossip(GossipHead { prev, curr, count }))
 }
 
-fn read_flush(body: &[u8]) -> Decoded
+fn read_flush(body: &[u8]) -> Option<Record>
     ensures { result ≡ head_decoded (checked (length body.now + 1) (flush_in body.now)) }
 {
-    if body.len() != 1 {
-        return Decoded::Bad;
-    }
-    let page = body[0] as u64;
+    let [page] = body else {
+        return None;
+    };
+    let page = u64::from(*page);
     if 32 <= page {
-        return Decoded::Bad;
+        return None;
     }
-    Decoded::Good(Record::Flush(FlushHead { page }))
+    Some(Record::Flush(FlushHead { page }))
 }
 
-fn read_record(kind: u8, body: &[u8]) -> Decoded
+#[tactic(auto, unfolding(model::specs::Records::decode))]
+fn read_record(kind: u8, body: &[u8]) -> Option<Record>
     ensures { result ≡ head_decoded (decode (length body.now + 1) kind body.now) }
 {
-    match kind {
-        1 => read_commit(body),
-        2 => read_gossip(body),
-        3 => read_flush(body),
-        _ => Decoded::Bad,
+    match Kind::try_from(kind) {
+        Ok(Kind::Commit) => read_commit(body),
+        Ok(Kind::Gossip) => read_gossip(body),
+        Ok(Kind::Flush) => read_flush(body),
+        Err(_) => None,
     }
 }
 
@@ -154,10 +145,7 @@ pub fn step_at(s: &[u8], p: Place) -> Step
         return Step::Short;
     }
     let length = fields::get_be(s, at, 2) as usize;
-    if length < 2 {
-        return Step::Malformed(at);
-    }
-    if 170 < length {
+    if length < 2 || 170 < length {
         return Step::Malformed(at);
     }
     if left - 2 < length {
@@ -167,10 +155,10 @@ pub fn step_at(s: &[u8], p: Place) -> Step
     let next = at + 2 + length;
     let body = &s[at + 3..next];
     match read_record(kind, body) {
-        Decoded::Good(record) => Step::Whole {
+        Some(record) => Step::Whole {
             record,
             next: Place { at: next },
         },
-        Decoded::Bad => Step::Malformed(at),
+        None => Step::Malformed(at),
     }
 }

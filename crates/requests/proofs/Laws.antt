@@ -9,7 +9,7 @@ use borrow.Author.Tests.{eq-eqb, ne_eqb}
 use Rattle.model.specs.Lists.{both}
 use Rattle.model.specs.Bytes.{be, from_be, write_at}
 use Rattle.model.specs.Exchange.{request_bytes, request_in}
-use Rattle.requests.specs.declared.Asked.TheVariants.{Nothing, For}
+use Rattle.std.specs.Prelude.{Some, None}
 use Rattle.requests.specs.Asking.{asked}
 
 behind : (j : List ℕ) → drop 8 (drop 8 (drop 1 (drop 2 j))) ≡ drop 19 j
@@ -28,19 +28,19 @@ none_both true = refl
 none_both false = refl
 
 module _ (bytes : List ℕ) where
-  pub other_size : (length bytes ≡ 19 → ⊥) → Nothing ≡ asked (request_in bytes)
+  pub other_size : (length bytes ≡ 19 → ⊥) → None ≡ asked (request_in bytes)
   unfolding request_in
   other_size e = rw (ne_eqb (length bytes) 19 e)
 
-  pub other_length : (from_be (take 2 bytes) ≡ 17 → ⊥) → Nothing ≡ asked (request_in bytes)
+  pub other_length : (from_be (take 2 bytes) ≡ 17 → ⊥) → None ≡ asked (request_in bytes)
   unfolding request_in
   other_length e = rw (ne_eqb (from_be (take 2 bytes)) 17 e, none_both)
 
-  pub other_kind : (get_or bytes 2 0 ≡ 4 → ⊥) → Nothing ≡ asked (request_in bytes)
+  pub other_kind : (get_or bytes 2 0 ≡ 4 → ⊥) → None ≡ asked (request_in bytes)
   unfolding request_in
   other_kind e = rw (ne_eqb (get_or bytes 2 0) 4 e, none_both, none_both)
 
   pub a_request : length bytes ≡ 19 → from_be (take 2 bytes) ≡ 17 → get_or bytes 2 0 ≡ 4
-      → For (from_be (take 8 (drop 3 bytes))) (from_be (take 8 (drop 11 bytes))) ≡ asked (request_in bytes)
+      → Some (record { from = from_be (take 8 (drop 3 bytes)); to = from_be (take 8 (drop 11 bytes)) }) ≡ asked (request_in bytes)
   unfolding request_in
   a_request a b c = rw (eq-eqb (length bytes) 19 a, eq-eqb (from_be (take 2 bytes)) 17 b, eq-eqb (get_or bytes 2 0) 4 c)

@@ -6,38 +6,45 @@ ghost use Rattle.model.specs.Bytes.{write_at};
 ghost use Rattle.model.specs.Exchange.{request_bytes, request_in};
 ghost use Rattle.requests.specs.Asking.{asked};
 
-// What bytes ask for: the message from a prev up to a clock stamp, or nothing.
-#[derive(Clone, Copy)]
-pub enum Asked {
-    Nothing,
-    For(u64, u64),
+// What follows the record's length field has so many bytes.
+const LENGTH: u64 = 17;
+
+const KIND: u8 = 4;
+
+// Asks for the message from a prev up to a clock stamp.
+#[derive(Clone, Copy, PartialEq, Eq, Debug)]
+pub struct Request {
+    pub from: u64,
+    pub to: u64,
 }
 
-// The request at the buffer's front. Crate exchange has tested that its 19 bytes are there before it calls.
-pub fn write(buffer: &mut [u8], from: u64, to: u64)
-    requires { 19 ≤ length buffer.old }
-    ensures { buffer.new ≡ write_at 0 (request_bytes «from» to) buffer.old }
-{
-    fields::put_be(buffer, 0, 2, 17);
-    fields::put_be(buffer, 2, 1, 4);
-    fields::put_be(buffer, 3, 8, from);
-    fields::put_be(buffer, 11, 8, to);
-}
+impl Request {
+    // The request at the buffer's front. Crate exchange has tested that its 19 bytes are there before it calls.
+    pub fn write(self, buffer: &mut [u8])
+        requires { 19 ≤ length buffer.old }
+        ensures { buffer.new ≡ write_at 0 (request_bytes self.«from» self.to) buffer.old }
+    {
+        fields::put_be(buffer, 0, 2, LENGTH);
+        fields::put_be(buffer, 2, 1, KIND as u64);
+        fields::put_be(buffer, 3, 8, self.from);
+        fields::put_be(buffer, 11, 8, self.to);
+    }
 
-// One whole request and nothing else.
-pub fn read(bytes: &[u8]) -> Asked
-    ensures { result ≡ asked (request_in bytes.now) }
-{
-    if bytes.len() != 19 {
-        return Asked::Nothing;
+    // One whole request and nothing else.
+    pub fn read(bytes: &[u8]) -> Option<Request>
+        ensures { result ≡ asked (request_in bytes.now) }
+    {
+        if bytes.len() != 19 {
+            return None;
+        }
+        if fields::get_be(bytes, 0, 2) != LENGTH {
+            return None;
+        }
+        if bytes[2] != KIND {
+            return None;
+        }
+        let from = fields::get_be(bytes, 3, 8);
+        let to = fields::get_be(bytes, 11, 8);
+        Some(Request { from, to })
     }
-    if fields::get_be(bytes, 0, 2) != 17 {
-        return Asked::Nothing;
-    }
-    if bytes[2] != 4 {
-        return Asked::Nothing;
-    }
-    let from = fields::get_be(bytes, 3, 8);
-    let to = fields::get_be(bytes, 11, 8);
-    Asked::For(from, to)
 }

@@ -1,14 +1,13 @@
 -- A test of a list, asked from a place i on: what a turn of a loop at i leaves of it, where a turn settles it, and what it is at the end.
-use Prim.Native.Nat.{ℕ, zero, suc, ◌+◌, ◌<◌, ◌≤◌}
+use Prim.Native.Nat.{ℕ, zero, suc, ◌<◌}
 use mathlib.Core.Path.{◌≡◌, refl, sym}
 use mathlib.Core.Bool.{Bool, true, false, true≢false}
 use mathlib.Core.List.{List, [], ◌∷◌}
-use native.Mathlib.Numerals.{add-one}
 use native.Mathlib.Omega.{arith}
-use lib.ListN.{length, drop, get_or, drop_of_length-le}
-use lib.Seq.{drop-cons}
+use lib.ListN.{length, get_or}
 use lib.Dec.{ltb, leb}
-use borrow.Author.Tests.{ltb-true, lt-ltb, le-ltb, le-leb, leb-true}
+use Rattle.std.specs.List.{list_all}
+use borrow.Author.Tests.{ltb-true}
 use Rattle.model.specs.Judgement.{objects_shaped}
 use Rattle.rules.proofs.Marks.{by_test}
 use Rattle.model.specs.Lists.{both, all_b, rising_from}
@@ -22,16 +21,10 @@ both_right : (a b : Bool) → both a b ≡ true → b ≡ true
 both_right true b e = e
 both_right false b e = absurd (true≢false (sym e))
 
-module _ {A : Type 0} (f : A → Bool) (l : List A) (i : ℕ) (d : A) (h : i < length l) where
-  pub all_next : f (get_or l i d) ≡ true → all_b f (drop i l) ≡ all_b f (drop (i + 1) l)
-  all_next e = rw (add-one, drop-cons l i d, e)
-
-  pub all_stop : f (get_or l i d) ≡ false → all_b f (drop i l) ≡ false
-  all_stop e = rw (drop-cons l i d, e)
-
-module _ {A : Type 0} (f : A → Bool) (l : List A) (i : ℕ) (h : length l ≤ i) where
-  pub all_end : all_b f (drop i l) ≡ true
-  all_end = rw (drop_of_length-le l h)
+-- as the library asks it
+pub all_listed : {A : Type 0} (f : A → Bool) (l : List A) → list_all f l ≡ all_b f l
+all_listed f [] = refl
+all_listed f (x ∷ l) = by_test (f x) (λ t. rw t (all_listed f l)) (λ t. rw t)
 
 -- where all objects are the store's, each is
 pub object_low : (l : List ℕ) (i : ℕ) → i < length l → all_b (λ o. ltb o 512) l ≡ true → get_or l i 0 < 512
@@ -48,30 +41,6 @@ shaped_low os e = both_right (both (leb 1 (length os)) (leb (length os) 16)) (al
 abbrev pub within : ℕ → ℕ → List ℕ → Bool
 within lo hi l = both (rising_from lo l) (all_b (λ s. leb s hi) l)
 
-none_both : (b : Bool) → both b false ≡ false
-none_both true = refl
-none_both false = refl
-
-both_all : (b : Bool) → both b true ≡ b
-both_all true = refl
-both_all false = refl
-
 -- with a bound on the last one so far
 abbrev pub bounded : ℕ → ℕ → List ℕ → Bool
 bounded lo hi l = both (leb lo hi) (within lo hi l)
-
-bounded_cons : (lo hi s : ℕ) (l : List ℕ) → lo < s → bounded lo hi (s ∷ l) ≡ bounded s hi l
-bounded_cons lo hi s l e =
-    by_test (leb s hi)
-    (λ t. rw (t, lt-ltb lo s e, le-leb lo hi (omega (arith, leb-true s hi t))))
-    (λ t. rw (t, lt-ltb lo s e, none_both, none_both))
-
-module _ (lo hi : ℕ) (l : List ℕ) (i : ℕ) where
-  pub bounded_low : (b : Bool) → i < length l → get_or l i 0 ≤ lo → both b (bounded lo hi (drop i l)) ≡ false
-  bounded_low b h e = rw (drop-cons l i 0, le-ltb lo (get_or l i 0) e, none_both (leb lo hi)) (none_both b)
-
-  pub bounded_next : i < length l → lo < get_or l i 0 → bounded lo hi (drop i l) ≡ bounded (get_or l i 0) hi (drop (i + 1) l)
-  bounded_next h e = rw (add-one, drop-cons l i 0) (bounded_cons lo hi (get_or l i 0) (drop (suc i) l) e)
-
-  pub bounded_end : length l ≤ i → bounded lo hi (drop i l) ≡ leb lo hi
-  bounded_end h = rw (drop_of_length-le l h) (both_all (leb lo hi))

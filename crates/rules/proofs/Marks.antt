@@ -1,11 +1,11 @@
 -- Numbers met before are marked in a table: one that is met again stands twice in their list.
-use Prim.Native.Nat.{ℕ, zero, suc, ◌+◌, ◌<◌, ◌≤◌}
+use Prim.Native.Nat.{ℕ, zero, suc, ◌+◌, ◌<◌}
 use mathlib.Core.Path.{◌≡◌, refl, ap, sym}
 use mathlib.Core.Bool.{Bool, true, false}
 use mathlib.Core.List.{List, [], ◌∷◌}
 use native.Mathlib.Numerals.{add-one}
 use native.Mathlib.Omega.{arith}
-use lib.ListN.{length, drop, get_or, set, replicate, drop_of_length-le}
+use lib.ListN.{length, drop, get_or, set, replicate}
 use lib.Seq.{drop-cons, get_or-set_same, get_or-set_other}
 use lib.Dec.{eqb}
 use borrow.Author.Tests.{eqb-true, eqb-false}
@@ -56,7 +56,7 @@ module _ {A : Type 0} (none : A) (marks : A → Bool) where
       unmet [] = refl
       unmet (x ∷ xs) = rw (h x, unmet xs)
 
-  -- a turn at i, and the end
+  -- a turn at i
   module _ (seen : List A) (os : List ℕ) (i : ℕ) where
     pub again_met : i < length os → marked_b seen (get_or os i 0) ≡ true → again seen (drop i os) ≡ true
     again_met h e = rw (drop-cons os i 0, e)
@@ -64,9 +64,6 @@ module _ {A : Type 0} (none : A) (marks : A → Bool) where
     pub again_new : (v : A) → marks v ≡ true → i < length os → get_or os i 0 < length seen → marked_b seen (get_or os i 0) ≡ false
         → again (set seen (get_or os i 0) v) (drop (i + 1) os) ≡ again seen (drop i os)
     again_new v m h g e = rw (add-one, drop-cons os i 0) (mark_again seen (get_or os i 0) v g m (drop (suc i) os) e)
-
-    pub again_end : length os ≤ i → again seen (drop i os) ≡ false
-    again_end h = rw (drop_of_length-le os h)
 
 pub blank_at : {A : Type 0} (none : A) (n o : ℕ) → get_or (replicate n none) o none ≡ none
 blank_at none zero o = refl

@@ -1,7 +1,7 @@
 // The Shape and Twice rules for the lists of a change. The calls judge their arguments by them, and the journal's reader its records.
 #![tactic(auto)]
 
-ghost use Rattle.std.specs.Prelude.{◌≡◌, true, false, ℕ, ◌≤◌, ltb, leb, length, get_or};
+ghost use Rattle.std.specs.Prelude.{◌≡◌, true, false, ℕ, ◌≤◌, ltb, leb, get_or};
 ghost use Rattle.model.specs.Lists.{both, all_b, twice_b, rising_from};
 ghost use Rattle.model.specs.Judgement.{objects_shaped, stamps_shaped};
 
@@ -9,46 +9,33 @@ ghost use Rattle.model.specs.Judgement.{objects_shaped, stamps_shaped};
 fn all_objects(objects: &[u64]) -> bool
     ensures { result ≡ all_b (λ o. ltb o 512) objects.now }
 {
-    let mut i: usize = 0;
-    while i < objects.len() {
-        if 512 <= objects[i] {
-            return false;
-        }
-        i += 1;
-    }
-    true
+    objects.iter().all(|object| *object < 512)
 }
 
+#[tactic(auto, unfolding(model::specs::Judgement::objects_shaped))]
 pub fn objects_shaped(objects: &[u64]) -> bool
     ensures { result ≡ objects_shaped objects.now }
 {
-    if objects.len() < 1 {
-        return false;
-    }
-    if 16 < objects.len() {
-        return false;
-    }
-    all_objects(objects)
+    (1..=16).contains(&objects.len()) && all_objects(objects)
 }
 
 // Some object is met again; seen marks those met so far.
 fn met_again(objects: &[u64], seen: &mut [bool; 512]) -> bool
-    requires { (all_b (λ o. ltb o 512) objects.now ≡ true) × (length seen.old ≡ 512) × ((o : ℕ) → get_or seen.old o false ≡ false) }
+    requires { (all_b (λ o. ltb o 512) objects.now ≡ true) × ((o : ℕ) → get_or seen.old o false ≡ false) }
     ensures { result ≡ twice_b objects.now }
 {
-    let mut i: usize = 0;
-    while i < objects.len() {
-        let object = objects[i] as usize;
+    for object in objects {
+        let object = *object as usize;
         if seen[object] {
             return true;
         }
         seen[object] = true;
-        i += 1;
     }
     false
 }
 
 // Some object is named twice.
+#[tactic(auto, using(crate::proofs::Marks::few_once))]
 pub fn named_twice(objects: &[u64]) -> bool
     requires { all_b (λ o. ltb o 512) objects.now ≡ true }
     ensures { result ≡ twice_b objects.now }
@@ -67,29 +54,18 @@ pub fn ascending_within(prev: u64, curr: u64, stamps: &[u64]) -> bool
 {
     let mut rising = true;
     let mut below = prev;
-    let mut i: usize = 0;
-    while i < stamps.len() {
-        let stamp = stamps[i];
-        if stamp <= below {
+    for stamp in stamps {
+        if *stamp <= below {
             rising = false;
         }
-        below = stamp;
-        i += 1;
+        below = *stamp;
     }
-    if !rising {
-        return false;
-    }
-    below <= curr
+    rising && below <= curr
 }
 
+#[tactic(auto, unfolding(model::specs::Judgement::stamps_shaped))]
 pub fn stamps_shaped(prev: u64, curr: u64, stamps: &[u64]) -> bool
     ensures { result ≡ stamps_shaped prev curr stamps.now }
 {
-    if 16 < stamps.len() {
-        return false;
-    }
-    if curr < prev {
-        return false;
-    }
-    ascending_within(prev, curr, stamps)
+    stamps.len() <= 16 && prev <= curr && ascending_within(prev, curr, stamps)
 }

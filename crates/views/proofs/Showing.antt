@@ -11,10 +11,8 @@ use Rattle.std.proofs.Common.{Option, Some, None}
 use Rattle.model.specs.declared.Seen.{Seen}
 use Rattle.model.specs.declared.Pending.{Pending}
 use Rattle.model.specs.declared.Past.{Past}
-use Rattle.model.specs.Lists.{either, pick, elem_b, twice_b}
-use Rattle.model.specs.Store.{Slot, none, some, object_at, slot_of, lookup, look_of, current_of, span_or, holds_b, pending_seen, past_seen}
-use Rattle.tables.specs.declared.Found.{Found}
-use Rattle.tables.specs.declared.Found.TheVariants.{At, Nothing}
+use Rattle.model.specs.Lists.{both, either, pick, elem_b, twice_b}
+use Rattle.model.specs.Store.{Slot, none, some, object_at, page_of, slot_of, lookup, look_of, current_of, span_or, in_span, holds_b, pending_seen, past_seen}
 use Rattle.tables.specs.Rows.{pending_at}
 use Rattle.tables.specs.Lookups.{find_pending, row_of, Indexed}
 use Rattle.tables.proofs.Bridges.{found_row, lookup_row, lookup_none}
@@ -99,13 +97,13 @@ module _ (v : ViewAnew) (k : ℕ) (h : k < 16) where
 
 -- ---- a row below n is the object's entry, and any other tells that it has none
 module _ (o : ℕ) (es : List Pending) (n : ℕ) (l : n ≤ length es) where
-  found_entry : (f : Found) → find_pending o (take n es) ≡ f → n ≤ 128 → row_of f < n → lookup o (take n es) ≡ some (pending_at es (row_of f))
-  found_entry (At i) e m h = lookup_row o es n i l e
-  found_entry Nothing e m h = absurd (omega arith)
+  found_entry : (f : Option ℕ) → find_pending o (take n es) ≡ f → n ≤ 128 → row_of f < n → lookup o (take n es) ≡ some (pending_at es (row_of f))
+  found_entry (Some i) e m h = lookup_row o es n i l e
+  found_entry None e m h = absurd (omega arith)
 
-  found_none : (f : Found) → find_pending o (take n es) ≡ f → n ≤ row_of f → lookup o (take n es) ≡ none
-  found_none (At i) e h = absurd (omega (arith, found_row o es n i l e))
-  found_none Nothing e h = lookup_none o (take n es) e
+  found_none : (f : Option ℕ) → find_pending o (take n es) ≡ f → n ≤ row_of f → lookup o (take n es) ≡ none
+  found_none (Some i) e h = absurd (omega (arith, found_row o es n i l e))
+  found_none None e h = lookup_none o (take n es) e
 
 -- ---- a slot's word after the entries are laid, by the row that the index tells for the slot's object
 module _ (v : ViewAnew) (k : ℕ) (h : k < 16) (p : v.page < 32) {index : List ℕ} (es : List Pending) (n : ℕ) (x : Indexed index (take n es))

@@ -6,4 +6,4 @@ use Rattle.damage.proofs.damaged.Goals as goal
 pub met_again-requires : goal.met_again-requires
 met_again-requires c =
     let s = c.out_of_range.ensures in
-    ((s.counted c.if-out_of_range.false).pending_count, c.requires.0, s.low c.if-out_of_range.false, refl, blank_at 128 512)
+    ((s.counted c.if-out_of_range.false).pending_count, s.low c.if-out_of_range.false, blank_at 128 512)

@@ -4,6 +4,7 @@ use mathlib.Core.Path.{◌≡◌, refl, ◌∙◌, sym, ap}
 use mathlib.Core.Bool.{Bool, false, not}
 use mathlib.Core.List.{List}
 use lib.ListN.{take}
+use borrow.Author.Rules.{rules}
 use lib.Dec.{leb}
 use borrow.Author.Tests.{not-false}
 use Rattle.model.specs.Lists.{either, any_b}
@@ -11,6 +12,7 @@ use Rattle.model.specs.Damage.{damaged}
 use Rattle.model.specs.Store.{Store}
 use Rattle.tables.specs.Rows.{pendings, pasts, copy_heads, copies_of}
 use Rattle.tables.specs.Contents.{contents, Counted}
+use Rattle.tables.proofs.Rows.{pendings_length, pasts_length, copies_length}
 use Rattle.tables.proofs.Searches.{both_left}
 use Rattle.damage.proofs.Laws.{hit, pass, counted, tested, damaged_over, damaged_is, sifted_hit}
 use Rattle.damage.proofs.out_of_range.Goals as goal
@@ -33,8 +35,8 @@ fit c = counted c.args.h (sym c.overfull.ensures ∙ c.if-overfull.false)
 whole : (c : Else-overfull) (values stamps copied : List ℕ) {r : Bool} → r ≡ left c.before.before copied → r ≡ damaged (held c.before.before values stamps copied)
 whole c values stamps copied e =
     let a = c.args in
-    let p = c.requires in
-    e ∙ damaged_is values stamps a.pending.now a.past.now a.snapshots.now a.copies.now copied a.h p.0 p.1 p.2 p.3 (sym c.overfull.ensures ∙ c.if-overfull.false)
+    e ∙ damaged_is values stamps a.pending.now a.past.now a.snapshots.now a.copies.now copied a.h
+    (pendings_length _ _ (search rules)) (pasts_length _ _ (search rules)) (search rules) (copies_length _ _ (search rules)) (sym c.overfull.ensures ∙ c.if-overfull.false)
 
 pub returns-then-overfull : goal.returns-then-overfull
 returns-then-overfull c =

@@ -1,12 +1,9 @@
 -- `fields::get_be` meets its contract: the bytes read so far, with those that are left, make the number; so many bytes have room in a u64.
-use Prim.Native.Nat.{◌≤◌, ◌<◌, ◌-◌, ◌^◌}
+use Prim.Native.Nat.{◌<◌, ◌^◌}
 use mathlib.Core.Path.{◌≡◌}
 use lib.ListN.{take, drop}
 use Rattle.model.specs.Bytes.{from_be, from_be_after}
 use Rattle.fields.proofs.get_be.Given as goal
 
-abbrev pub invariant-loop-i : goal.invariant-loop-i
-invariant-loop-i l = (l.i ≤ l.width) × (l.a < 256 ^ l.i) × (from_be_after l.a (drop l.i (take l.width (drop l.at l.s))) ≡ from_be (take l.width (drop l.at l.s)))
-
-abbrev pub decreases-loop-i : goal.decreases-loop-i
-decreases-loop-i l = l.width - l.i
+abbrev pub invariant-loop-byte : goal.invariant-loop-byte
+invariant-loop-byte l = (l.a < 256 ^ l.byte-index) × (from_be_after l.a (drop l.byte-index (take l.width (drop l.at l.s))) ≡ from_be (take l.width (drop l.at l.s)))

@@ -8,16 +8,16 @@ use Rattle.coordinator.proofs.messages.serve.Goals as goal
 pub returns-then-damaged : goal.returns-then-damaged
 unfolding serve
 returns-then-damaged c =
-    serve_damaged (held c.args.state.now) c.args.buffer.now (request_in c.args.request.now) c.in-Nothing.ensures
+    serve_damaged (held c.args.state.now) c.args.buffer.now (request_in c.args.request.now) c.in-None.ensures
     (sym c.damaged.ensures ∙ c.if-damaged.true)
 
-pub returns-in-For : goal.returns-in-For
+pub returns-in-Some : goal.returns-in-Some
 unfolding serve
-returns-in-For c =
-    serve_for (held c.args.state.now) c.args.buffer.now (request_in c.args.request.now) _ _ c.in-For.ensures c.message.ensures
+returns-in-Some c =
+    serve_for (held c.args.state.now) c.args.buffer.now (request_in c.args.request.now) _ _ c.in-Some.ensures c.message.ensures
 
 pub returns-else-damaged : goal.returns-else-damaged
 unfolding serve
 returns-else-damaged c =
-    serve_none (held c.args.state.now) c.args.buffer.now (request_in c.args.request.now) c.in-Nothing.ensures
+    serve_none (held c.args.state.now) c.args.buffer.now (request_in c.args.request.now) c.in-None.ensures
     (sym c.damaged.ensures ∙ c.if-damaged.false)

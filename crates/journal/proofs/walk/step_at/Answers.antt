@@ -4,8 +4,9 @@ use mathlib.Core.Path.{◌≡◌, sym, ◌∙◌}
 use native.Mathlib.Omega.{arith}
 use Rattle.model.specs.Records.{step_at}
 use Rattle.journal.specs.Heads.{head_step}
-use Rattle.journal.specs.declared.walk.Decoded.{Decoded}
-use Rattle.journal.proofs.Walks.{at_end, at_torn, at_small, at_large, at_cut, at_read, told_step}
+use Rattle.std.specs.declared.option.Option.{Option}
+use Rattle.journal.specs.declared.walk.Record.{Record}
+use Rattle.journal.proofs.Walks.{at_end, at_torn, at_outside, at_cut, at_read, told_step}
 use Rattle.journal.proofs.walk.step_at.Goals as goal
 use Rattle.journal.proofs.walk.step_at.Goals.{After-read_record}
 
@@ -20,12 +21,7 @@ returns-then-left-lt2 c =
 pub returns-then-length-lt2 : goal.returns-then-length-lt2
 returns-then-length-lt2 c =
     let a = c.args in
-    at_small a.s.now a.p.at c.get_be-length.ensures (omega arith) (omega arith)
-
-pub returns-then-length-gt170 : goal.returns-then-length-gt170
-returns-then-length-gt170 c =
-    let a = c.args in
-    at_large a.s.now a.p.at c.get_be-length.ensures (omega arith) (omega arith)
+    at_outside a.s.now a.p.at c.get_be-length.ensures (omega arith) (λ lo hi. omega (arith, c.then-length-lt2.either))
 
 pub returns-then-left-length : goal.returns-then-left-length
 returns-then-left-length c =
@@ -33,14 +29,14 @@ returns-then-left-length c =
     at_cut a.s.now a.p.at c.get_be-length.ensures (omega arith) (omega arith) (omega arith) (omega arith)
 
 -- what is told of a record once it is read
-read : {x : Decoded} (c : After-read_record) → c.read_record.result ≡ x
+read : {x : Option Record} (c : After-read_record) → c.read_record.result ≡ x
     → told_step x c.args.p.at (c.args.p.at + 2 + c.get_be-length.result) ≡ head_step (step_at c.args.s.now c.args.p.at)
 read c e =
     let a = c.args in
     at_read a.s.now a.p.at c.get_be-length.ensures (omega arith) (omega arith) (omega arith) (omega arith) (sym e ∙ c.read_record.ensures)
 
-pub returns-in-Good : goal.returns-in-Good
-returns-in-Good c = read (goal.at.returns-in-Good c).After-read_record c.in-Good.is
+pub returns-in-Some : goal.returns-in-Some
+returns-in-Some c = read (goal.at.returns-in-Some c).After-read_record c.in-Some.is
 
-pub returns-in-Bad : goal.returns-in-Bad
-returns-in-Bad c = read (goal.at.returns-in-Bad c).After-read_record c.in-Bad.is
+pub returns-in-None : goal.returns-in-None
+returns-in-None c = read (goal.at.returns-in-None c).After-read_record c.in-None.is
