@@ -17,6 +17,7 @@ use Rattle.rules.proofs.Laws.{shaped_low}
 use Rattle.tables.proofs.Cases.{by_test}
 use Rattle.journal.proofs.Places.{paired_length}
 use Rattle.journal.proofs.Walks.{paired_objects}
+use Rattle.changes.specs.Left.{Formed}
 use Rattle.changes.proofs.Shapes.{both_split, formed}
 use Rattle.changes.proofs.Outcomes.{Passed}
 
@@ -62,3 +63,15 @@ module _ {os vs j : List ℕ} {used : ℕ} (l : Listed os vs j used) (t : ℕ) w
 
   pub listed_passed : {st : Store} → damaged st ≡ false → twice_b os ≡ false → Passed st j used (eqb (length os) (length vs)) (commit t (paired os vs))
   listed_passed w d = record { whole = w; formed = listed_formed; once = listed_twice ∙ d }
+
+-- the lists of a commit that passed its two tests
+module _ {os vs j : List ℕ} {used : ℕ} (f : Formed os vs j used) where
+  pub formed_listed : Listed os vs j used
+  formed_listed = listed os vs j used f.shaped
+
+  module _ (t : ℕ) where
+    pub formed_length : length_of (commit t (paired os vs)) ≡ 10 + 10 * length os
+    formed_length = listed_length formed_listed t
+
+    pub formed_passed : {st : Store} → damaged st ≡ false → Passed st j used (eqb (length os) (length vs)) (commit t (paired os vs))
+    formed_passed w = listed_passed formed_listed t w f.once

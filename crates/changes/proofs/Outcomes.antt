@@ -1,13 +1,15 @@
 -- What a call leaves, by the test that settles its answer: a refused call leaves all as it was, code 0 the changed store and the record.
-use Prim.Native.Nat.{ℕ}
+use Prim.Native.Nat.{ℕ, ◌≤◌, ◌<◌}
 use mathlib.Core.Path.{◌≡◌, refl, sym, subst}
 use mathlib.Core.Bool.{Bool, true, false}
 use mathlib.Core.List.{List}
 use native.Mathlib.Omega.{arith}
-use borrow.Author.Tests.{ne_eqb}
+use lib.ListN.{length}
+use borrow.Author.Tests.{ne_eqb, le-leb}
 use Rattle.model.specs.declared.Answer.{Answer}
 use Rattle.model.specs.declared.Answer.TheVariants.{Done, Damaged, Shape, Twice}
 use Rattle.model.specs.declared.Verdict.{Verdict}
+use Rattle.model.specs.declared.Verdict.TheVariants.{Accepted}
 use Rattle.model.specs.Answers.{code_of}
 use Rattle.model.specs.Lists.{both}
 use Rattle.model.specs.Store.{Store}
@@ -17,7 +19,7 @@ use Rattle.model.specs.Judgement.{shaped, twice, judge}
 use Rattle.model.specs.Calls.{journal_shaped, roomed, reached, answer_to, outcome, change}
 use Rattle.journal.specs.Places.{Appended}
 use Rattle.changes.specs.Left.{Left}
-use Rattle.changes.proofs.Rooms.{Sober, sober, Taken, zero_taken}
+use Rattle.changes.proofs.Rooms.{Sober, sober, settled_sober, Taken, zero_taken}
 
 -- ---- an answer decides what is left
 module _ (st : Store) (j : List ℕ) (used : ℕ) (c : Change) (a : Answer) where
@@ -77,3 +79,15 @@ module _ {st : Store} {j : List ℕ} {used : ℕ} {good : Bool} {c : Change} (p 
 
     pub left_done : {s : Store} {k : List ℕ} {n : ℕ} → s ≡ after st c → Appended c j used k n → Left (change st j used good c) a s k n
     left_done x y = answered st j used good c say_settled (changed st j used c a taken.done x y)
+
+-- ---- a change that passed the tests before, by its verdict with the journal's room
+module _ {st : Store} {j : List ℕ} {used : ℕ} {good : Bool} {c : Change} (p : Passed st j used good c) {v : Verdict} (q : v ≡ judge st c) where
+  pub made_refused : {a : Answer} → (a ≡ roomed v j used c) × (v ≡ Accepted → length j < reached used c) → Left (change st j used good c) a st j used
+  made_refused e = left_refused p q e.0 (settled_sober v j used c (subst Sober (sym q) (sober st c)) e)
+
+  pub made_done : (v ≡ Accepted) × (reached used c ≤ length j) → {s : Store} {k : List ℕ} {n : ℕ} → s ≡ after st c → Appended c j used k n
+      → Left (change st j used good c) (Done n) s k n
+  made_done e {s} {k} {n} x y =
+      let d : Done (reached used c) ≡ roomed v j used c = rw (e.0, le-leb (reached used c) (length j) e.1) in
+      subst (λ (m : ℕ). Left (change st j used good c) (Done m) s k n) (sym y.place)
+      (answered st j used good c (say_settled p q d) (changed st j used c (Done (reached used c)) refl x y))

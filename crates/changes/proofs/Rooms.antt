@@ -18,8 +18,9 @@ use Rattle.model.specs.Judgement.{judge, judge_gossip, judge_flush}
 use Rattle.model.specs.Records.{length_of}
 use Rattle.model.specs.Calls.{reached, roomed}
 use Rattle.tables.specs.declared.Heads.{Heads}
+use Rattle.tables.specs.declared.Store as whole
 use Rattle.tables.specs.Rows.{up_to}
-use Rattle.tables.specs.Contents.{contents}
+use Rattle.tables.specs.Contents.{contents, stored}
 use Rattle.tables.proofs.Cases.{by_test}
 use Rattle.tables.proofs.Counts.{up_to_length}
 use Rattle.journal.proofs.Places.{reached_is}
@@ -38,6 +39,12 @@ module _ (j : List ℕ) (used : ℕ) {v : Verdict} where
 
     pub settled_no_room : length j < r → NoRoom r ≡ roomed v j used c
     settled_no_room h = rw (e, ← reaches, lt-leb r (length j) h)
+
+    pub fits_there : r ≤ length j → (v ≡ Accepted) × (reached used c ≤ length j)
+    fits_there h = let q = reaches in (e, omega arith)
+
+    pub no_room_there : length j < r → (NoRoom r ≡ roomed v j used c) × (v ≡ Accepted → length j < reached used c)
+    no_room_there h = let q = reaches in (settled_no_room h, λ _. omega arith)
 
   pub settled_idle : v ≡ Idle → (c : Change) → Nothing used ≡ roomed v j used c
   settled_idle e c = rw e
@@ -75,6 +82,15 @@ zero_taken Accepted j used c s z =
 zero_taken Idle j used c s z = absurd (omega arith)
 zero_taken (Refused a) j used c s z = absurd (s z)
 
+-- ---- what is in the way is of no code 0: a record that doesn't fit, nothing to do, or a refusal
+pub settled_sober : (v : Verdict) (j : List ℕ) (used : ℕ) (c : Change) {a : Answer} → Sober v → (a ≡ roomed v j used c) × (v ≡ Accepted → length j < reached used c) → code_of a ≡ 0 → ⊥
+settled_sober Accepted j used c s e z =
+    let l = e.1 refl in
+    let y : ◌≡◌ {A = ℕ} 12 0 = rw (e.0, lt-leb (reached used c) (length j) l) at z in
+    omega arith
+settled_sober Idle j used c s e z = let y : ◌≡◌ {A = ℕ} 1 0 = rw e.0 at z in omega arith
+settled_sober (Refused b) j used c s e z = s (rw e.0 at z)
+
 -- ---- the room for a message's new stamps, by the count that the heads have
 pub gossip_room : (disk dated : List ℕ) (pending past : List (List ℕ)) (snapshots : List ℕ) (copies : List (List ℕ)) (copied : List ℕ) (h : Heads) (prev curr : ℕ) (stamps : List ℕ)
     → judge_gossip (contents disk dated pending past snapshots copies copied h) prev curr stamps ≡ Accepted → h.snapshots + length (kept (ltb h.horizon) stamps) ≤ 64
@@ -93,3 +109,12 @@ pub flush_idle : (disk dated : List ℕ) (pending past : List (List ℕ)) (snaps
     → Idle ≡ judge_flush (contents disk dated pending past snapshots copies copied h) p
 flush_idle disk dated pending past snapshots copies copied h p e =
     empty_idle (contents disk dated pending past snapshots copies copied h) p (up_to_none _ h.pending _ (omega arith)) (up_to_none _ h.snapshots _ (omega arith))
+
+-- ---- the same of the whole store
+pub gossip_room_anew : (s : whole.Store) (prev curr : ℕ) (stamps : List ℕ) → judge_gossip (stored s) prev curr stamps ≡ Accepted
+    → s.heads.snapshots + length (kept (ltb s.heads.horizon) stamps) ≤ 64
+gossip_room_anew s prev curr stamps e =
+    rw (up_to_length 0 s.heads.snapshots s.snapshots) at (gossips.accepted_room (stored s) prev curr stamps e)
+
+pub flush_idle_anew : (s : whole.Store) (p : ℕ) → s.heads.pending + s.heads.snapshots ≡ 0 → Idle ≡ judge_flush (stored s) p
+flush_idle_anew s p e = empty_idle (stored s) p (up_to_none _ s.heads.pending _ (omega arith)) (up_to_none _ s.heads.snapshots _ (omega arith))

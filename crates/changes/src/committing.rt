@@ -1,35 +1,89 @@
 // Commit, with its journal.
-ghost use Rattle.std.specs.Prelude.{◌≡◌, List, ℕ, length, eqb};
+ghost use Rattle.std.specs.Prelude.{◌≡◌, false, List, ℕ, length, eqb, MatchResult};
 ghost use Rattle.model.specs.Lists.{both};
+ghost use Rattle.model.specs.Store as model;
+ghost use Rattle.model.specs.Damage.{damaged};
 ghost use Rattle.model.specs.Changes.{paired};
 ghost use Rattle.model.specs.Judgement.{objects_shaped, judge_commit};
 ghost use Rattle.model.specs.Calls.{journal_shaped, commit_call};
 ghost use Rattle.tables.specs.Contents.{contents, stored};
-ghost use Rattle.commits.specs.Promises.{Ready};
-ghost use Rattle.changes.specs.Left.{Left};
+ghost use Rattle.commits.specs.Promises.{Ready, ReadyAnew};
+ghost use Rattle.changes.specs.Left.{Left, Made, Formed};
 ghost use Rattle.changes.specs.Kept.{CommitKept};
 
 use crate::settling::{Changed, ChangedAnew};
 use journal::place::Place;
 use model::{Answer, Verdict};
-use tables::{Copied, CopyTable, Disk, Heads, PastTable, PendingTable, Snapshots, Store};
+use tables::{Copied, CopyTable, Disk, Heads, Index, PastTable, PendingTable, Snapshots, Store};
 
 // The lists and the journal have a shape that a commit can have.
 pub fn commit_shaped(journal: &[u8], used: Place, objects: &[u64], values: &[u64]) -> bool
     ensures { result ≡ both (both (eqb (length objects.now) (length values.now)) (journal_shaped journal.now used.at)) (objects_shaped objects.now) }
 {
-    if objects.len() != values.len() {
-        return false;
+    objects.len() == values.len()
+        && crate::settling::journal_shaped(journal, used)
+        && rules::objects_shaped(objects)
+}
+
+// The tests that need no table: a refusal is the one that an undamaged store gives.
+pub fn formed(journal: &[u8], used: Place, objects: &[u64], values: &[u64]) -> Result<(), Answer>
+    ensures { MatchResult result (λ _. Formed objects.now values.now journal.now used.at) (λ a. (st : model.Store) (t : ℕ) → damaged st ≡ false → Left (commit_call st journal.now used.at t objects.now values.now) a st journal.now used.at) }
+{
+    if !commit_shaped(journal, used, objects, values) {
+        return Err(Answer::Shape);
     }
-    if !crate::settling::journal_shaped(journal, used) {
-        return false;
+    if rules::named_twice(objects) {
+        return Err(Answer::Twice);
     }
-    rules::objects_shaped(objects)
+    Ok(())
+}
+
+// A commit where some entry is pending.
+fn rewrite(
+    store: &mut Store,
+    journal: &mut [u8],
+    used: Place,
+    t: u64,
+    objects: &[u64],
+    values: &[u64],
+) -> Result<Place, Answer>
+    ensures made { Made (commit_call (stored store.old) journal.old used.at t objects.now values.now) result (stored store.new) journal.new used.at }
+    ensures kept { CommitKept store.old store.new }
+{
+    let mut index = [128u8; 512];
+    if damage::damaged_or_indexed_anew(store, &mut index) {
+        return Err(Answer::Damaged);
+    }
+    formed(journal, used, objects, values)?;
+    let verdict = commits::fitting::judge(store, t, objects, &index);
+    crate::settling::settled_anew(verdict, journal, used, 10 + 10 * objects.len())?;
+    commits::apply_commit_anew(store, t, objects, values, &mut index);
+    Ok(used.append_commit(journal, t, objects, values))
+}
+
+// Writes the objects' values at the stamp t.
+pub fn commit_anew(
+    store: &mut Store,
+    journal: &mut [u8],
+    used: Place,
+    t: u64,
+    objects: &[u64],
+    values: &[u64],
+) -> ChangedAnew
+    ensures left { Left (commit_call (stored store.old) journal.old used.at t objects.now values.now) result.answer (stored store.new) journal.new result.place.at }
+    ensures kept { CommitKept store.old store.new }
+{
+    let made = if store.heads.pending == 0 {
+        crate::adding::add(store, journal, used, t, objects, values)
+    } else {
+        rewrite(store, journal, used, t, objects, values)
+    };
+    ChangedAnew::told(made, used)
 }
 
 // The verdict on a commit, weighed only where it might not fit. It stands here and in crate restart, and not once in commits: so the
 // compiler puts the short test in line, and the weighing behind a call.
-fn judged(
+fn judged_before(
     pending: &PendingTable,
     snapshots: &Snapshots,
     copies: &CopyTable,
@@ -93,7 +147,7 @@ pub fn commit(
             place: used,
         };
     }
-    let verdict = judged(pending, snapshots, copies, h, t, objects, &index);
+    let verdict = judged_before(pending, snapshots, copies, h, t, objects, &index);
     let answer = crate::settling::settled(verdict, journal, used, 10 + 10 * objects.len());
     if answer.code() != 0 {
         return Changed {
@@ -111,39 +165,5 @@ pub fn commit(
         heads,
         answer,
         place,
-    }
-}
-
-// Writes the objects' values at the stamp t.
-pub fn commit_anew(
-    store: &mut Store,
-    journal: &mut [u8],
-    used: Place,
-    t: u64,
-    objects: &[u64],
-    values: &[u64],
-) -> ChangedAnew
-    ensures left { Left (commit_call (stored store.old) journal.old used.at t objects.now values.now) result.answer (stored store.new) journal.new result.place.at }
-    ensures kept { CommitKept store.old store.new }
-{
-    let c = commit(
-        &store.written.disk,
-        &store.written.dated,
-        &mut store.written.pending,
-        &mut store.written.past,
-        &store.snapshots,
-        &store.copies,
-        &store.copied,
-        store.heads,
-        journal,
-        used,
-        t,
-        objects,
-        values,
-    );
-    store.heads = c.heads;
-    ChangedAnew {
-        answer: c.answer,
-        place: c.place,
     }
 }

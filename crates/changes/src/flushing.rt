@@ -2,13 +2,57 @@
 ghost use Rattle.std.specs.Prelude.{◌≡◌};
 ghost use Rattle.model.specs.Calls.{flush_call};
 ghost use Rattle.tables.specs.Contents.{contents, stored};
-ghost use Rattle.changes.specs.Left.{Left};
+ghost use Rattle.changes.specs.Left.{Left, Made};
 ghost use Rattle.changes.specs.Kept.{FlushKept};
 
 use crate::settling::{Changed, ChangedAnew};
+use flushes::PlanAnew;
 use journal::place::Place;
 use model::Answer;
 use tables::{Copied, CopyTable, Disk, Heads, PastTable, PendingTable, Snapshots, Store};
+
+fn settle(
+    store: &mut Store,
+    journal: &mut [u8],
+    used: Place,
+    page: u64,
+) -> Result<Place, Answer>
+    ensures made { Made (flush_call (stored store.old) journal.old used.at page) result (stored store.new) journal.new used.at }
+    ensures kept { FlushKept store.old store.new }
+{
+    if damage::damaged_anew(store) {
+        return Err(Answer::Damaged);
+    }
+    if !crate::settling::journal_shaped(journal, used) {
+        return Err(Answer::Shape);
+    }
+    if 32 <= page {
+        return Err(Answer::Shape);
+    }
+    // Without entries and snapshots there is nothing to flush, on any page.
+    let h = store.heads;
+    if h.pending + h.snapshots == 0 {
+        return Err(Answer::Nothing(used.at as u64));
+    }
+    let mut plan = PlanAnew::empty();
+    let verdict = flushes::judge_flush_anew(store, page, &mut plan);
+    crate::settling::settled_anew(verdict, journal, used, 2)?;
+    flushes::apply_flush_anew(store, page, &plan);
+    Ok(used.append_flush(journal, page))
+}
+
+// Flushes a page: copies for the due snapshots, and its pending values to disk.
+pub fn flush_anew(
+    store: &mut Store,
+    journal: &mut [u8],
+    used: Place,
+    page: u64,
+) -> ChangedAnew
+    ensures left { Left (flush_call (stored store.old) journal.old used.at page) result.answer (stored store.new) journal.new result.place.at }
+    ensures kept { FlushKept store.old store.new }
+{
+    ChangedAnew::told(settle(store, journal, used, page), used)
+}
 
 pub fn flush(
     disk: &mut Disk,
@@ -100,35 +144,5 @@ pub fn flush(
         heads,
         answer,
         place,
-    }
-}
-
-// Flushes a page: copies for the due snapshots, and its pending values to disk.
-pub fn flush_anew(
-    store: &mut Store,
-    journal: &mut [u8],
-    used: Place,
-    page: u64,
-) -> ChangedAnew
-    ensures left { Left (flush_call (stored store.old) journal.old used.at page) result.answer (stored store.new) journal.new result.place.at }
-    ensures kept { FlushKept store.old store.new }
-{
-    let c = flush(
-        &mut store.written.disk,
-        &mut store.written.dated,
-        &mut store.written.pending,
-        &mut store.written.past,
-        &store.snapshots,
-        &mut store.copies,
-        &mut store.copied,
-        store.heads,
-        journal,
-        used,
-        page,
-    );
-    store.heads = c.heads;
-    ChangedAnew {
-        answer: c.answer,
-        place: c.place,
     }
 }

@@ -1,20 +1,14 @@
 // What the three calls share: their result, the journal's shape, and the room for a record.
-ghost use Rattle.std.specs.Prelude.{◌≡◌, ℕ, ◌≤◌, length};
+ghost use Rattle.std.specs.Prelude.{◌≡◌, ℕ, ◌≤◌, length, MatchResult};
+ghost use Rattle.model.specs.declared.Answer.TheVariants.{Done};
 ghost use Rattle.model.specs.Changes.{Change};
 ghost use Rattle.model.specs.Records.{length_of};
 ghost use Rattle.model.specs.Calls.{journal_shaped, roomed};
+ghost use Rattle.changes.specs.Left.{Settled};
 
 use journal::place::Place;
 use model::{Answer, Verdict};
 use tables::Heads;
-
-// What a change hands back: the heads, the answer, and the place for the next call.
-#[derive(Clone, Copy)]
-pub struct Changed {
-    pub heads: Heads,
-    pub answer: Answer,
-    pub place: Place,
-}
 
 // What a change hands back: the answer, and the place for the next call.
 #[derive(Clone, Copy)]
@@ -23,16 +17,60 @@ pub struct ChangedAnew {
     pub place: Place,
 }
 
+impl ChangedAnew {
+    // A change that was made goes on behind its record, a refused one where it was called.
+    pub fn told(made: Result<Place, Answer>, used: Place) -> ChangedAnew
+        ensures { MatchResult made (λ p. result ≡ record { answer = Done p.at; place = p }) (λ a. result ≡ record { answer = a; place = used }) }
+    {
+        match made {
+            Ok(place) => ChangedAnew {
+                answer: Answer::Done(place.at as u64),
+                place,
+            },
+            Err(answer) => ChangedAnew {
+                answer,
+                place: used,
+            },
+        }
+    }
+}
+
 // The journal is no longer than it may be, and the used length lies within it.
 pub fn journal_shaped(journal: &[u8], used: Place) -> bool
     ensures { result ≡ journal_shaped journal.now used.at }
 {
-    let at = used.at;
-    if journal.len() <= 65535 {
-        at <= journal.len()
-    } else {
-        false
+    journal.len() <= 65535 && used.at <= journal.len()
+}
+
+// A verdict with the journal's room, the last test. `length` is what the record's length field says.
+pub fn settled_anew(
+    verdict: Verdict,
+    journal: &[u8],
+    used: Place,
+    length: usize,
+) -> Result<(), Answer>
+    requires { (length ≤ 170) × (used.at ≤ 65535) }
+    ensures { (c : Change) → length_of c ≡ length → Settled verdict journal.now used.at c result }
+{
+    match verdict {
+        Verdict::Accepted => {
+            let reached = used.behind(length);
+            if journal.len() < reached {
+                return Err(Answer::NoRoom(reached as u64));
+            }
+            Ok(())
+        }
+        Verdict::Idle => Err(Answer::Nothing(used.at as u64)),
+        Verdict::Refused(a) => Err(a),
     }
+}
+
+// What a change hands back: the heads, the answer, and the place for the next call.
+#[derive(Clone, Copy)]
+pub struct Changed {
+    pub heads: Heads,
+    pub answer: Answer,
+    pub place: Place,
 }
 
 // A verdict with the journal's room, the last test. `length` is what the record's length field says.

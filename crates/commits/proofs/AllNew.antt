@@ -13,20 +13,15 @@ use Rattle.model.specs.Lists.{twice_b}
 use Rattle.model.specs.Store.{Store, Slot, none, some, lookup}
 use Rattle.model.specs.Changes.{paired, put, displaced, write_one, writes, last_at, commit_store}
 use Rattle.tables.specs.declared.Heads.{Heads}
+use Rattle.tables.specs.declared.Store as tables
 use Rattle.tables.specs.Rows.{pending_of, past_of, pendings, pasts, up_to}
-use Rattle.tables.specs.Contents.{contents, Counted}
+use Rattle.tables.specs.Contents.{contents, stored, Counted}
 use Rattle.tables.proofs.Bridges.{opened}
 use Rattle.tables.proofs.Cases.{by_test, clash}
 use Rattle.tables.proofs.Counts.{up_to_length, up_to_take}
 use Rattle.commits.specs.Rows.{new_b, new_in}
-use Rattle.commits.specs.Promises.{Room, grown}
+use Rattle.commits.specs.Promises.{Room, AppliedAnew, with_pending, stamped, opened_all, grown}
 use Rattle.commits.proofs.Distinct.{once_rest, map_off, lookup_other}
-
--- a new entry for each write
-abbrev pub opened_all : ℕ → List ℕ → List ℕ → List Pending
-opened_all t [] vs = []
-opened_all t (o ∷ os) [] = []
-opened_all t (o ∷ os) (v ∷ vs) = opened o t v ∷ opened_all t os vs
 
 opened_length : (t : ℕ) (os vs : List ℕ) → length (opened_all t os vs) ≤ length os
 opened_length t [] vs = omega arith
@@ -118,8 +113,11 @@ module _ (t : ℕ) (os vs : List ℕ) where
         let c : k < length vs = omega arith in
         rw (add-one, take-suc-set ps k, append_assoc) (rw (drop-cons os k 0, drop-cons vs k 0) at w)
 
-    adding_all : length os ≤ k → take k ps ≡ opened_all t os vs
-    adding_all b = sym (append-nil (take k ps)) ∙ (rw (drop_of_length-le os b) at w)
+    adding_taken : length os ≤ k → take k ps ≡ opened_all t os vs
+    adding_taken b = sym (append-nil (take k ps)) ∙ (rw (drop_of_length-le os b) at w)
+
+    pub adding_all : length os ≡ k → k ≤ length ps → up_to (pending_of []) (length os) ps ≡ opened_all t os vs
+    adding_all e b = rw e (up_to_take (pending_of []) k ps b ∙ adding_taken (omega arith))
 
   -- at its end the tables hold the store after the commit
   pub added_all : (pending₀ pending : List (List ℕ)) (h : Heads) (k : ℕ) → Adding (pendings pending) k → h.pending ≡ 0 → twice_b os ≡ false → length os ≤ k → k ≤ length (pendings pending)
@@ -129,4 +127,14 @@ module _ (t : ℕ) (os vs : List ℕ) where
   unfolding last_at
   added_all pending₀ pending h k w e d b c disk dated past snapshots copies copied =
       let st = contents disk dated pending₀ past snapshots copies copied h in
-      ap (holding (last_at st t)) (up_to_take (pending_of []) k (pendings pending) c ∙ adding_all (pendings pending) k w b) ∙ sym (commit_new t os vs st (none_pending pending₀ h e) d)
+      ap (holding (last_at st t)) (up_to_take (pending_of []) k (pendings pending) c ∙ adding_taken (pendings pending) k w b) ∙ sym (commit_new t os vs st (none_pending pending₀ h e) d)
+
+  -- the store after the commit holds them
+  pub entered_all : {s : tables.Store} → s.heads.pending ≡ 0 → Counted s.heads → length os ≤ 16 → twice_b os ≡ false → (pending : List (List ℕ)) → up_to (pending_of []) (length os) (pendings pending) ≡ opened_all t os vs
+      → AppliedAnew s (stamped (with_pending s pending (length os)) t) t (paired os vs)
+  unfolding last_at
+  entered_all {s} e c m d pending f = record {
+    contains = ap (holding (last_at (stored s) t)) f ∙ sym (commit_new t os vs (stored s) (none_pending s.written.pending s.heads e) d);
+    counted = record { pending_count = omega arith; past_count = c.past_count; snapshot_count = c.snapshot_count; copy_count = c.copy_count };
+    untouched = record { disk = refl; dated = refl; snapshots = refl; copies = refl; copied = refl; snapshot_count = refl; copy_count = refl };
+  }

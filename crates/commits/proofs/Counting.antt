@@ -1,6 +1,6 @@
 -- A loop that counts those of a list that pass a test: one turn, and the end. No more pass than there are.
 use Prim.Native.Nat.{ℕ, ◌+◌, ◌≤◌, ◌<◌}
-use mathlib.Core.Path.{◌≡◌, sym, ◌∙◌}
+use mathlib.Core.Path.{◌≡◌, sym, ap, ◌∙◌}
 use mathlib.Core.Bool.{Bool, true, false}
 use mathlib.Core.List.{List, [], ◌∷◌, map}
 use native.Mathlib.Numerals.{add-one}
@@ -8,7 +8,7 @@ use native.Mathlib.Omega.{arith}
 use lib.ListN.{length, drop, get_or, drop_of_length-le}
 use lib.Seq.{drop-cons}
 use Rattle.tables.proofs.Cases.{by_test}
-use Rattle.commits.specs.Rows.{trues}
+use Rattle.commits.specs.Rows.{one_if, trues}
 
 -- a of the first k pass
 abbrev pub Counts : {A : Type 0} → (A → Bool) → List A → ℕ → ℕ → Type 0
@@ -21,6 +21,9 @@ module _ {A : Type 0} (f : A → Bool) (xs : List A) (k a : ℕ) (v : Counts f x
 
     pub counts_none : b ≡ false → Counts f xs (k + 1) a
     counts_none t = rw (add-one k) (omega (arith, rw (drop-cons xs k d l, sym e ∙ t) at v))
+
+    pub counts_by : {a' : ℕ} → a' ≡ a + one_if b → Counts f xs (k + 1) a'
+    counts_by m = rw (add-one k) (omega (arith, ap one_if e, rw (drop-cons xs k d l) at v))
 
   pub counts_all : length xs ≤ k → a ≡ trues (map f xs)
   counts_all l = omega (arith, rw (drop_of_length-le xs l) at v)

@@ -1,15 +1,17 @@
 -- A list that names no object twice; and a write of one object, which leaves every other object's entry as it was.
-use Prim.Native.Nat.{ℕ}
+use Prim.Native.Nat.{ℕ, ◌<◌}
 use mathlib.Core.Path.{◌≡◌, refl}
 use mathlib.Core.Bool.{Bool, true, false}
 use mathlib.Core.List.{List, [], ◌∷◌, map}
-use lib.Dec.{eqb}
-use borrow.Author.Tests.{eqb-true, eqb-false, ne_eqb}
+use lib.Dec.{eqb, ltb}
+use lib.ListN.{length, get_or}
+use borrow.Author.Tests.{eqb-true, eqb-false, ne_eqb, ltb-true}
 use Rattle.model.specs.declared.Pending.{Pending}
-use Rattle.model.specs.Lists.{either, elem_b, twice_b}
+use Rattle.model.specs.Lists.{either, elem_b, twice_b, all_b}
 use Rattle.model.specs.Store.{lookup}
 use Rattle.model.specs.Changes.{put}
 use Rattle.tables.proofs.Cases.{by_test, clash}
+use Rattle.tables.proofs.Searches.{all_at}
 
 either_false : (a b : Bool) → either a b ≡ false → (a ≡ false) × (b ≡ false)
 either_false true b e = clash e
@@ -37,3 +39,7 @@ module _ (o t v x : ℕ) (n : eqb x o ≡ false) where
       by_test (eqb e.object o)
       (λ q. rw (q, other e.object (eqb-true _ _ q)))
       (λ q. rw (q, ih))
+
+-- each object has a place in the index
+pub low : (os : List ℕ) → all_b (λ o. ltb o 512) os ≡ true → (k : ℕ) → k < length os → get_or os k 0 < 512
+low os r k b = ltb-true (get_or os k 0) 512 (all_at (λ o. ltb o 512) os k 0 b r)

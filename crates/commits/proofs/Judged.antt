@@ -20,7 +20,7 @@ use Rattle.model.specs.Judgement.{judge_commit}
 use Rattle.tables.specs.declared.Heads.{Heads}
 use Rattle.tables.specs.declared.Store as whole
 use Rattle.tables.specs.Rows.{pending_of, past_of, pendings, pasts, up_to}
-use Rattle.tables.specs.Contents.{contents, stored}
+use Rattle.tables.specs.Contents.{contents, stored, Counted}
 use Rattle.tables.proofs.Cases.{by_test}
 use Rattle.tables.proofs.Counts.{up_to_length}
 use Rattle.tables.proofs.Searches.{both_left, both_right}
@@ -126,6 +126,46 @@ module _ {pending : List (List ℕ)} {snapshots : List ℕ} {copies : List (List
             let x = left_pending disk dated past copied vs l in
             let y = left_past disk dated past copied vs l in
             say_accepted (before disk dated past copied vs l) t (paired os vs) (omega arith) (omega arith) (omega arith) (omega (arith, d copied))
+
+-- ---- over the whole store: the lengths that a commit would leave, and the verdict by them
+module _ (s : whole.Store) (t : ℕ) (os : List ℕ) where
+  abbrev Judges : Verdict → Type 0
+  Judges v = (vs : List ℕ) → length vs ≡ length os → v ≡ judge_commit (stored s) t (paired os vs)
+
+  module _ (d : twice_b os ≡ false) where
+    more_pending : (vs : List ℕ) → length vs ≡ length os → length (commit_store (stored s) t (paired os vs)).pending ≡ s.heads.pending + trues (map (new_in (stored s).pending) os)
+    unfolding last_at
+    more_pending vs l = omega (arith, pending_growth t os vs (last_at (stored s) t) l d, up_to_length (pending_of []) s.heads.pending (pendings s.written.pending))
+
+    more_past : (vs : List ℕ) → length vs ≡ length os → length (commit_store (stored s) t (paired os vs)).past ≡ s.heads.past + trues (map (displaces_in (live_in (stored s)) t (stored s).pending) os)
+    unfolding last_at
+    more_past vs l = omega (arith, past_growth t os vs (last_at (stored s) t) l d, up_to_length (past_of []) s.heads.past (pasts s.written.past))
+
+  module _ {latest : ℕ} (late : latest ≡ max s.heads.last s.heads.horizon) (d : twice_b os ≡ false) where
+    pub late_anew : t ≤ latest → Judges (Refused (Late latest))
+    late_anew b vs l = ap (λ n. Refused (Late n)) late ∙ say_late (stored s) t (paired os vs) (omega arith)
+
+    module _ (b : latest < t) {n : ℕ} (e : n ≡ trues (map (new_in (stored s).pending) os)) where
+      pub pending_anew : 128 - s.heads.pending < n → Judges (Refused PendingFull)
+      pending_anew f vs l = say_pending (stored s) t (paired os vs) (omega arith) (omega arith) (omega (arith, more_pending d vs l))
+
+      module _ (f : n ≤ 128 - s.heads.pending) (c : Counted s.heads) {m : ℕ} (k : m ≡ trues (map (displaces_in (live_in (stored s)) t (stored s).pending) os)) where
+        pub past_anew : 256 - s.heads.past < m → Judges (Refused PastFull)
+        past_anew g vs l = say_past (stored s) t (paired os vs) (omega arith) (omega arith) (omega (arith, more_pending d vs l)) (omega (arith, more_past d vs l))
+
+        pub accepted_anew : m ≤ 256 - s.heads.past → Judges Accepted
+        accepted_anew g vs l = say_accepted (stored s) t (paired os vs) (omega arith) (omega arith) (omega (arith, more_pending d vs l)) (omega (arith, more_past d vs l))
+
+-- where there is room
+module _ (s : whole.Store) (t : ℕ) {latest : ℕ} (late : latest ≡ max s.heads.last s.heads.horizon) where
+  abbrev JudgesRoomy : Verdict → Type 0
+  JudgesRoomy v = (ws : List Write) → Room (commit_store (stored s) t ws) → v ≡ judge_commit (stored s) t ws
+
+  pub roomy_late_anew : t ≤ latest → JudgesRoomy (Refused (Late latest))
+  roomy_late_anew b ws m = ap (λ n. Refused (Late n)) late ∙ say_late (stored s) t ws (omega arith)
+
+  pub roomy_accepted_anew : latest < t → JudgesRoomy Accepted
+  roomy_accepted_anew b ws m = say_accepted (stored s) t ws (omega arith) (omega arith) m.pending_room m.past_room
 
 -- a commit of so many writes fits, whatever they add: each adds one entry and one past value at most
 pub roomy_room_anew : (s : whole.Store) (t : ℕ) (os vs : List ℕ) → twice_b os ≡ false → length vs ≡ length os

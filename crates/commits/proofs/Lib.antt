@@ -6,4 +6,7 @@ pub mod Finding
 pub mod OneWrite
 pub mod Writing
 pub mod Judged
+pub mod Displacing
+pub mod Steps
+pub mod Commit
 pub mod Whole

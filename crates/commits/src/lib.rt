@@ -1,6 +1,13 @@
 // A commit without its journal: judged over the tables, then written to them. Restart uses both as they stand.
 #![tactic(auto)]
 
+pub mod fitting;
+mod judging;
+mod applying;
+
+pub use judging::{judge_commit_anew, judge_with_room_anew};
+pub use applying::{add_all_anew, apply_commit_anew};
+
 ghost use Rattle.std.specs.Prelude.{◌≡◌, true, false, List, map, ℕ, ◌+◌, ◌≤◌, ◌<◌, max, length, take, leb};
 ghost use Rattle.model.specs.declared.Pending.{Pending};
 ghost use Rattle.model.specs.Lists.{both, rising_from, twice_b};
@@ -8,12 +15,12 @@ ghost use Rattle.model.specs.Changes.{Write, paired, closed, write_one, commit_s
 ghost use Rattle.model.specs.Judgement.{judge_commit};
 ghost use Rattle.tables.specs.Rows.{pendings, pasts, copy_heads};
 ghost use Rattle.tables.specs.Lookups.{find_pending, row_of, Indexed};
-ghost use Rattle.tables.specs.Contents.{contents, stored, Counted};
+ghost use Rattle.tables.specs.Contents.{contents, Counted};
 ghost use Rattle.commits.specs.Rows.{trues, new_in, live_by, displaces_in};
-ghost use Rattle.commits.specs.Promises.{Ready, ReadyAnew, OneReady, Room, Applied, AppliedAnew, Wrote, Added, past_with, grown};
+ghost use Rattle.commits.specs.Promises.{Ready, OneReady, Room, Applied, Wrote, Added, past_with, grown};
 
 use model::{Answer, Past, Pending, Verdict};
-use tables::{CopyTable, Heads, Index, PastTable, PendingTable, Snapshots, Store, Written};
+use tables::{CopyTable, Heads, Index, PastTable, PendingTable, Snapshots};
 
 // The larger of two stamps.
 fn later(a: u64, b: u64) -> u64
@@ -304,77 +311,4 @@ pub fn add_all(
         last: t,
         past: h.past,
     }
-}
-
-// The two tables that a commit writes have the rows of their types, which a contract knows of a table, and not of one in a struct in a struct.
-fn rows(written: &Written)
-    ensures { (length (pendings written.now.pending) ≡ 128) × (length (pasts written.now.past) ≡ 256) }
-{
-    let _ = &written.pending;
-}
-
-// What the store says of the commit: Late, Pending full, Past full, or accepted.
-pub fn judge_commit_anew(store: &Store, t: u64, objects: &[u64], index: &Index) -> Verdict
-    requires { ReadyAnew store.now objects.now index.now }
-    ensures { (vs : List ℕ) → length vs ≡ length objects.now → result ≡ judge_commit (stored store.now) t (paired objects.now vs) }
-{
-    rows(&store.written);
-    judge_commit(
-        &store.written.pending,
-        &store.snapshots,
-        &store.copies,
-        store.heads,
-        t,
-        objects,
-        &index[..],
-    )
-}
-
-// The commit's writes, in their order. The judge has accepted them, so there is room. The index follows the entries.
-pub fn apply_commit_anew(
-    store: &mut Store,
-    t: u64,
-    objects: &[u64],
-    values: &[u64],
-    index: &mut Index,
-)
-    requires ready { ReadyAnew store.old objects.now index.old }
-    requires room { (length values.now ≡ length objects.now) × Room (commit_store (stored store.old) t (paired objects.now values.now)) }
-    ensures applied { AppliedAnew store.old store.new t (paired objects.now values.now) }
-    ensures indexed { Indexed index.new (take store.new.heads.pending (pendings store.new.written.pending)) }
-{
-    let h = store.heads;
-    rows(&store.written);
-    let grown = apply_commit(
-        &mut store.written.pending,
-        &mut store.written.past,
-        &store.snapshots,
-        &store.copies,
-        h,
-        t,
-        objects,
-        values,
-        index,
-    );
-    store.heads = heads_after(h, grown);
-}
-
-// What the store says of a commit that fits: Late, or accepted.
-pub fn judge_with_room_anew(store: &Store, t: u64) -> Verdict
-    ensures { (ws : List Write) → Room (commit_store (stored store.now) t ws) → result ≡ judge_commit (stored store.now) t ws }
-{
-    judge_with_room(store.heads, t)
-}
-
-// The writes of a commit where no entry is pending: each a new one.
-pub fn add_all_anew(store: &mut Store, t: u64, objects: &[u64], values: &[u64])
-    requires none_pending { (store.old.heads.pending ≡ 0) × Counted store.old.heads }
-    requires well_formed { (length objects.now ≤ 16) × (length values.now ≡ length objects.now) × (twice_b objects.now ≡ false) }
-    ensures applied { AppliedAnew store.old store.new t (paired objects.now values.now) }
-    ensures past_kept { (store.new.written.past ≡ store.old.written.past) × (store.new.heads.past ≡ store.old.heads.past) }
-{
-    let h = store.heads;
-    rows(&store.written);
-    let grown = add_all(&mut store.written.pending, h, t, objects, values);
-    store.heads = heads_after(h, grown);
 }

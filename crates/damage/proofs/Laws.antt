@@ -7,19 +7,22 @@ use native.Mathlib.Omega.{arith}
 use lib.ListN.{length, take, get_or, length-map, length-take, get_or-map}
 use lib.Seq.{length-take-le, get_or-take}
 use lib.Dec.{ltb, leb}
-use borrow.Author.Tests.{ltb-false, leb-true, leb-false, lt-ltb, le-ltb}
+use borrow.Author.Tests.{not-false, ltb-false, leb-true, leb-false, lt-ltb, le-ltb}
 use Rattle.model.specs.declared.Pending.{Pending}
 use Rattle.model.specs.Lists.{both, either, any_b, all_b, twice_b}
 use Rattle.model.specs.Damage.{overfull, misnumbered, doubled, misordered, damaged}
 use Rattle.rules.proofs.Laws.{within}
 use Rattle.rules.proofs.Marks.{few_once}
+pub use Rattle.rules.proofs.Marks.{blank_at}
 use Rattle.tables.specs.declared.Heads.{Heads}
 use Rattle.tables.specs.Rows.{pending_of, past_of, pendings, pasts, copy_heads, copies_of, pending_at}
-use Rattle.tables.specs.Contents.{contents, Counted}
+use Rattle.tables.specs.declared.Store as held
+use Rattle.tables.specs.Contents.{contents, stored, Counted}
+use Rattle.tables.proofs.Searches.{both_left}
 use Rattle.tables.proofs.Cases.{by_test, clash}
 use Rattle.tables.proofs.Copies.{no_copy, copies_of_length}
 use Rattle.tables.proofs.Counts.{up_to_take, up_to_length}
-use Rattle.damage.specs.Sifted.{Sifted}
+use Rattle.damage.specs.Sifted.{Sifted, SiftedAnew}
 
 -- ---- a chain of tests
 pub hit : {a : Bool} (b : Bool) → a ≡ true → true ≡ either a b
@@ -163,3 +166,39 @@ sifted_hit d = record {
   low = λ e. clash e;
   rising = λ e. clash e;
 }
+
+-- ---- of a store: the tests of the ranges, in their order
+abbrev pub ranges : held.Store → Bool
+ranges s =
+    either
+    (either
+    (either
+    (either (over_count s.heads) (any_b (λ e. leb 512 e.object) (take s.heads.pending (pendings s.written.pending))))
+    (any_b (λ q. leb 512 q.object) (take s.heads.past (pasts s.written.past))))
+    (any_b (λ c. leb 32 c.page) (take s.heads.copies (copies_of (copy_heads s.copies) s.copied))))
+    (not (within 0 s.heads.horizon (take s.heads.snapshots s.snapshots)))
+
+either_chain : (o p q c n t : Bool) → either (either (either (either (either o p) q) c) n) t ≡ either o (either p (either q (either c (either n t))))
+either_chain true p q c n t = refl
+either_chain false true q c n t = refl
+either_chain false false true c n t = refl
+either_chain false false false true n t = refl
+either_chain false false false false n t = refl
+
+module _ (s : held.Store) (p : length (pendings s.written.pending) ≡ 128) (q : length (pasts s.written.past) ≡ 256)
+    (k : length s.snapshots ≡ 64) (c : length (copy_heads s.copies) ≡ 128) where
+  whole : damaged (stored s) ≡ either (ranges s) (twice_b (objects_of s.heads.pending (pendings s.written.pending)))
+  whole =
+      let e = either_chain (over_count s.heads) _ _ _ _ (twice_b (objects_of s.heads.pending (pendings s.written.pending))) in
+      by_test (over_count s.heads)
+      (λ t. sym (damaged_over s.written.disk s.written.dated s.written.pending s.written.past s.snapshots s.copies s.copied s.heads t) ∙ hit _ t ∙ sym e)
+      (λ t. sym (damaged_is s.written.disk s.written.dated s.written.pending s.written.past s.snapshots s.copies s.copied s.heads p q k c t) ∙ pass t refl ∙ sym e)
+
+  pub sifted : {r : Bool} → r ≡ ranges s → SiftedAnew r s
+  sifted e = record {
+    hit = λ t. whole ∙ sym (hit _ (sym e ∙ t));
+    left = λ t. whole ∙ sym (pass (sym e ∙ t) refl);
+    counted = λ t. counted s.heads (either_left _ _ (either_left _ _ (either_left _ _ (either_left _ _ (sym e ∙ t)))));
+    low = λ t. either_right _ _ (either_left _ _ (either_left _ _ (either_left _ _ (sym e ∙ t))));
+    rising = λ t. both_left _ _ (not-false _ (either_right _ _ (sym e ∙ t)));
+  }

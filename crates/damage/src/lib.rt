@@ -1,12 +1,12 @@
 // Damaged, exactly document 01's list: tested for every content of the tables and every value of the heads.
 #![tactic(auto)]
 
-ghost use Rattle.std.specs.Prelude.{◌≡◌, Bool, false, List, map, ℕ, ◌≤◌, length, take, get_or, ltb, leb};
+ghost use Rattle.std.specs.Prelude.{◌≡◌, ◌<◌, ◌^◌, Bool, false, List, map, ℕ, ◌≤◌, length, take, get_or, ltb, leb};
 ghost use Rattle.model.specs.Lists.{either, any_b, twice_b};
 ghost use Rattle.model.specs.Damage as model;
 ghost use Rattle.tables.specs.Rows.{pendings, pasts, copy_heads, copies_of};
 ghost use Rattle.tables.specs.Lookups.{Indexed};
-ghost use Rattle.tables.specs.Contents.{contents, stored};
+ghost use Rattle.tables.specs.Contents.{contents, stored, Counted};
 ghost use Rattle.damage.specs.Sifted.{Sifted, SiftedAnew};
 
 use tables::{CopyTable, Heads, Index, PastTable, PendingTable, Snapshots, Store};
@@ -15,45 +15,34 @@ use tables::{CopyTable, Heads, Index, PastTable, PendingTable, Snapshots, Store}
 fn overfull(h: Heads) -> bool
     ensures { result ≡ either (ltb 128 h.pending) (either (ltb 256 h.past) (either (ltb 64 h.snapshots) (ltb 128 h.copies))) }
 {
-    if 128 < h.pending {
-        return true;
-    }
-    if 256 < h.past {
-        return true;
-    }
-    if 64 < h.snapshots {
-        return true;
-    }
-    128 < h.copies
+    128 < h.pending || 256 < h.past || 64 < h.snapshots || 128 < h.copies
 }
 
-// An object number is out of range. A limit that is a power of two is kept by all numbers just when it is kept by their join.
+// The numbers at the rows' fronts, joined bit by bit. A limit that is a power of two is kept by all of them just when it is kept by their join.
+fn joined<const W: usize>(rows: &[[u64; W]]) -> u64
+    requires { 0 < W }
+    ensures { (k : ℕ) → leb (2 ^ k) result ≡ any_b (λ row. leb (2 ^ k) (get_or row 0 0)) rows.now }
+{
+    let mut all: u64 = 0;
+    for row in rows {
+        all |= row[0];
+    }
+    all
+}
+
+// An object number is out of range.
 fn pending_out(t: &PendingTable, n: usize) -> bool
     requires { n ≤ 128 }
     ensures { result ≡ any_b (λ e. leb 512 e.object) (take n (pendings t.now)) }
 {
-    let mut objects: u64 = 0;
-    let mut i: usize = 0;
-    while i < n {
-        let e = tables::pending_at(t, i);
-        objects = objects | e.object;
-        i += 1;
-    }
-    512 <= objects
+    512 <= joined(&t[..n])
 }
 
 fn past_out(t: &PastTable, n: usize) -> bool
     requires { n ≤ 256 }
     ensures { result ≡ any_b (λ q. leb 512 q.object) (take n (pasts t.now)) }
 {
-    let mut all: u64 = 0;
-    let mut i: usize = 0;
-    while i < n {
-        let q = tables::past_at(t, i);
-        all = all | q.object;
-        i += 1;
-    }
-    512 <= all
+    512 <= joined(&t[..n])
 }
 
 // A page number is out of range.
@@ -61,14 +50,7 @@ fn copies_out(t: &CopyTable, n: usize) -> bool
     requires { n ≤ 128 }
     ensures { (words : List ℕ) → result ≡ any_b (λ c. leb 32 c.page) (take n (copies_of (copy_heads t.now) words)) }
 {
-    let mut pages: u64 = 0;
-    let mut i: usize = 0;
-    while i < n {
-        let c = tables::copy_at(t, i);
-        pages = pages | c.page;
-        i += 1;
-    }
-    32 <= pages
+    32 <= joined(&t[..n])
 }
 
 // A count or a number is out of its range, or the snapshots don't ascend to the horizon: all of Damaged but two entries of one object.
@@ -105,13 +87,10 @@ pub fn met_again(t: &PendingTable, n: usize, index: &mut Index) -> bool
     ensures { (result ≡ twice_b (map (λ e. e.object) (take n (pendings t.now)))) × (result ≡ false → Indexed index.new (take n (pendings t.now))) }
 {
     let mut fresh: u8 = 128;
-    let mut i: usize = 0;
-    while i < n {
-        let e = tables::pending_at(t, i);
-        let object = e.object as usize;
-        fresh = fresh & index[object];
+    for i in 0..n {
+        let object = tables::pending_at(t, i).object as usize;
+        fresh &= index[object];
         index[object] = i as u8;
-        i += 1;
     }
     fresh < 128
 }
@@ -158,38 +137,38 @@ pub fn damaged(
 pub fn out_of_range_anew(store: &Store) -> bool
     ensures { SiftedAnew result store.now }
 {
-    out_of_range(
-        &store.written.pending,
-        &store.written.past,
-        &store.snapshots,
-        &store.copies,
-        store.heads,
-    )
+    rows(&store.written.pending, &store.written.past);
+    let h = store.heads;
+    overfull(h)
+        || pending_out(&store.written.pending, h.pending)
+        || past_out(&store.written.past, h.past)
+        || copies_out(&store.copies, h.copies)
+        || !rules::ascending_within(0, h.horizon, &store.snapshots[..h.snapshots])
 }
+
+// A contract knows the length of a lent array, and not of an array in a struct further in. Compiled, nothing is left of this.
+fn rows(pending: &PendingTable, past: &PastTable)
+    ensures { (length (pendings pending.now) ≡ 128) × (length (pasts past.now) ≡ 256) }
+{}
 
 // Damaged; where it is not, the index tells the row of each object's entry. It comes with 128 for every object.
 pub fn damaged_or_indexed_anew(store: &Store, index: &mut Index) -> bool
     requires { (o : ℕ) → get_or index.old o 128 ≡ 128 }
-    ensures { (result ≡ model.damaged (stored store.now)) × (result ≡ false → Indexed index.new (take store.now.heads.pending (pendings store.now.written.pending))) }
+    ensures { (result ≡ model.damaged (stored store.now)) × (result ≡ false → Indexed index.new (take store.now.heads.pending (pendings store.now.written.pending))) × (result ≡ false → Counted store.now.heads × (twice_b (map (λ e. e.object) (take store.now.heads.pending (pendings store.now.written.pending))) ≡ false)) }
 {
-    damaged_or_indexed(
-        &store.written.pending,
-        &store.written.past,
-        &store.snapshots,
-        &store.copies,
-        store.heads,
-        index,
-    )
+    out_of_range_anew(store) || met_again(&store.written.pending, store.heads.pending, index)
 }
 
 pub fn damaged_anew(store: &Store) -> bool
     ensures { result ≡ model.damaged (stored store.now) }
 {
-    damaged(
-        &store.written.pending,
-        &store.written.past,
-        &store.snapshots,
-        &store.copies,
-        store.heads,
-    )
+    if out_of_range_anew(store) {
+        return true;
+    }
+    // One entry alone is no second one.
+    if store.heads.pending < 2 {
+        return false;
+    }
+    let mut index = [128u8; 512];
+    met_again(&store.written.pending, store.heads.pending, &mut index)
 }

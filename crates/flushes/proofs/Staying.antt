@@ -1,4 +1,5 @@
 -- The past rows that stay, by the page's new mark alone; those that the entries leave; and with both the past after a flush.
+use Rattle.std.specs.Prelude.{Some}
 use Prim.Native.Nat.{ℕ, ◌<◌}
 use mathlib.Core.Path.{◌≡◌, ap, ◌∙◌}
 use mathlib.Core.Bool.{Bool, true, false}
@@ -49,21 +50,20 @@ leaver_on_disk p e b h t = on_disk p e h (both_left (of_page p e) b t)
 
 -- ---- marks of other pages are not looked at
 module _ (p m h : ℕ) (known : List ℕ) where
-  by_marks : (marks : List ℕ) → p < 32 → get_or marks p 0 ≡ m → (q : Past) → stays_by p h known marks q ≡ stays_at p m h known q
+  by_marks : (marks : List ℕ) → p < 32 → get_or marks p 0 ≡ m → (q : Past) → stays_by (Some p) h known marks q ≡ stays_at p m h known q
   by_marks marks l g q =
-      let n = ne_eqb p 32 (λ e. omega arith) in
-      by_test (eqb (page_of q.object) p) (λ e. rw (n, e, eqb-true (page_of q.object) p e, g)) (λ e. rw (n, e))
+      by_test (eqb (page_of q.object) p) (λ e. rw (e, eqb-true (page_of q.object) p e, g)) (λ e. rw e)
 
-  kept_marks : (marks : List ℕ) → p < 32 → get_or marks p 0 ≡ m → (qs : List Past) → kept (stays_by p h known marks) qs ≡ kept (stays_at p m h known) qs
-  kept_marks marks l g qs = kept_same (stays_by p h known marks) (stays_at p m h known) (by_marks marks l g) qs
+  kept_marks : (marks : List ℕ) → p < 32 → get_or marks p 0 ≡ m → (qs : List Past) → kept (stays_by (Some p) h known marks) qs ≡ kept (stays_at p m h known) qs
+  kept_marks marks l g qs = kept_same (stays_by (Some p) h known marks) (stays_at p m h known) (by_marks marks l g) qs
 
   -- a compaction by marks that hold the page's
   pub drop_held : (zeros : List ℕ) → p < length zeros → p < 32 → {past : List (List ℕ)} {r : ℕ} (qs : List Past)
-      → (take r (pasts past) ≡ kept (stays_by p h known (set zeros p m)) qs) × (r ≡ length (kept (stays_by p h known (set zeros p m)) qs)) × (length (pasts past) ≡ 256)
+      → take r (pasts past) ≡ kept (stays_by (Some p) h known (set zeros p m)) qs → r ≡ length (kept (stays_by (Some p) h known (set zeros p m)) qs)
       → Holding past r (kept (stays_at p m h known) qs)
-  drop_held zeros b l qs e =
+  drop_held zeros b l qs e f =
       let k = kept_marks (set zeros p m) l (get_or-set_same zeros p m 0 b) qs in
-      record { rows = e.0 ∙ k; count = e.1 ∙ ap length k; past_rows = e.2 }
+      record { rows = e ∙ k; count = f ∙ ap length k }
 
   by_copies : (cs : List Copy) → m ≡ mark cs p → (q : Past) → stays_b h known cs p q ≡ stays_at p m h known q
   by_copies cs g q =

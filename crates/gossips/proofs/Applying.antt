@@ -1,4 +1,5 @@
 -- The tables after a message hold the store after it: the known snapshots, and the past values that live on.
+use Rattle.std.specs.Prelude.{None}
 use Prim.Native.Nat.{ℕ, ◌≤◌}
 use mathlib.Core.Path.{◌≡◌, ◌∙◌}
 use mathlib.Core.Bool.{Bool, true}
@@ -19,7 +20,7 @@ use Rattle.tables.proofs.Bridges.{kept_every}
 use Rattle.gossips.specs.Promises.{Ready, Added, Dropped, Applied}
 
 -- a test keeps at most all
-kept_most : {A : Type 0} (f : A → Bool) (l : List A) → length (kept f l) ≤ length l
+pub kept_most : {A : Type 0} (f : A → Bool) (l : List A) → length (kept f l) ≤ length l
 kept_most f [] = omega arith
 kept_most f (x ∷ xs) = let ih = kept_most f xs in by_test (f x) (λ e. rw e (omega arith)) (λ e. rw e (omega arith))
 
@@ -34,11 +35,11 @@ module _ (past : List (List ℕ)) (n : ℕ) (known : List ℕ) (copies : List (L
   none_dropped l e = record { live = λ words. rw e; count = omega arith; past_rows = l }
 
   pub dropped : (past' : List (List ℕ)) (r : ℕ) (marks : List ℕ) → ((words : List ℕ) (p : ℕ) → get_or marks p 0 ≡ mark (take m (copies_of (copy_heads copies) words)) p)
-      → (take r (pasts past') ≡ kept (stays_by 32 horizon known marks) (take n (pasts past))) × (r ≡ length (kept (stays_by 32 horizon known marks) (take n (pasts past)))) × (length (pasts past') ≡ 256)
+      → (take r (pasts past') ≡ kept (stays_by None horizon known marks) (take n (pasts past))) × (r ≡ length (kept (stays_by None horizon known marks) (take n (pasts past)))) × (length (pasts past') ≡ 256)
       → Dropped past past' n r known copies m horizon
   dropped past' r marks e d = record {
     live = λ words. d.0 ∙ kept_every horizon known marks (take m (copies_of (copy_heads copies) words)) (e words) (take n (pasts past));
-    count = omega (arith, d.1, kept_most (stays_by 32 horizon known marks) (take n (pasts past)), length-take n (pasts past));
+    count = omega (arith, d.1, kept_most (stays_by None horizon known marks) (take n (pasts past)), length-take n (pasts past));
     past_rows = d.2;
   }
 

@@ -32,6 +32,11 @@ rises_behind p [] i h r = absurd (omega arith)
 rises_behind p (x ∷ xs) zero h r = rest_rises p x xs r
 rises_behind p (x ∷ xs) (suc i) h r = rises_behind x xs i (omega arith) (rest_rises p x xs r)
 
+pub rises_drop : (p : ℕ) (xs : List ℕ) (i : ℕ) → rising_from p xs ≡ true → rising_from 0 (drop i xs) ≡ true
+rises_drop p xs zero r = rises_low p 0 xs r (omega arith)
+rises_drop p [] (suc i) r = refl
+rises_drop p (x ∷ xs) (suc i) r = rises_drop x xs i (rest_rises p x xs r)
+
 module _ (u p : ℕ) (xs : List ℕ) (i : ℕ) (h : i < length xs) (r : rising_from p xs ≡ true) (b : u < get_or xs i 0) where
   tail_rises : rising_from u (drop i xs) ≡ true
   tail_rises = rw (drop-cons xs i 0 h, lt-ltb u (get_or xs i 0) b) (rises_behind p xs i h r)

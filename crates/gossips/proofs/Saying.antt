@@ -1,9 +1,10 @@
 -- What the store says of a message, by the tests that the code makes in turn.
+use Rattle.std.specs.Prelude.{Option, Some, None}
 use Prim.Native.Nat.{ℕ, ◌+◌, ◌<◌, ◌≤◌, min}
 use mathlib.Core.Path.{◌≡◌, sym}
 use mathlib.Core.List.{List}
 use native.Mathlib.Omega.{arith}
-use lib.ListN.{length, take, length-append}
+use lib.ListN.{length, length-append}
 use lib.Dec.{ltb, leb}
 use borrow.Author.Tests.{lt-ltb, le-ltb, le-leb, lt-leb}
 use Rattle.model.specs.declared.Answer.TheVariants.{Gap, Conflict, SnapshotsFull}
@@ -13,36 +14,34 @@ use Rattle.model.specs.Store.{Store}
 use Rattle.model.specs.Changes.{gossip_store}
 use Rattle.model.specs.Judgement.{compared, against, judge_gossip}
 use Rattle.model.specs.Judgement as judgement
-use Rattle.gossips.specs.declared.Compared.{Compared}
-use Rattle.gossips.specs.declared.Compared.TheVariants.{Same, Differ}
-use Rattle.gossips.specs.Promises.{compared_as}
+use Rattle.gossips.specs.Promises.{differing_in}
 
 -- ---- the comparison, from the code's answer
-as_differ : (w : judgement.Compared) (s : ℕ) → compared_as w ≡ Differ s → w ≡ judgement.differ s
-as_differ judgement.same s e = let z : ◌≡◌ {A = ℕ} 0 1 = cc in absurd (omega arith)
+as_differ : (w : judgement.Compared) (s : ℕ) → differing_in w ≡ Some s → w ≡ judgement.differ s
+as_differ judgement.same s e = cc
 as_differ (judgement.differ t) s e = cc
 
-as_same : (w : judgement.Compared) → compared_as w ≡ Same → w ≡ judgement.same
+as_same : (w : judgement.Compared) → differing_in w ≡ None → w ≡ judgement.same
 as_same judgement.same e = cc
-as_same (judgement.differ t) e = let z : ◌≡◌ {A = ℕ} 0 1 = cc in absurd (omega arith)
+as_same (judgement.differ t) e = cc
 
 module _ (st : Store) (prev curr : ℕ) (stamps : List ℕ) where
-  -- of the first n snapshots, where they are the known ones
-  pub against_said : {u : ℕ} (n : ℕ) (snapshots : List ℕ) {x : Compared} → u ≡ min curr st.horizon → st.snapshots ≡ take n snapshots
-      → x ≡ compared_as (compared (kept (λ s. leb s u) stamps) (kept (λ s. both (ltb prev s) (leb s u)) (take n snapshots))) → compared_as (against st prev curr stamps) ≡ x
+  -- of the known snapshots
+  pub against_said : {u : ℕ} {known : List ℕ} {x : Option ℕ} → u ≡ min curr st.horizon → st.snapshots ≡ known
+      → x ≡ differing_in (compared (kept (λ s. leb s u) stamps) (kept (λ s. both (ltb prev s) (leb s u)) known)) → differing_in (against st prev curr stamps) ≡ x
   unfolding against
-  against_said n snapshots e f g = sym (rw (e, ← f) at g)
+  against_said e f g = sym (rw (e, ← f) at g)
 
   pub say_gap : st.horizon < prev → Refused (Gap st.horizon) ≡ judge_gossip st prev curr stamps
   unfolding judge_gossip
   say_gap l = rw (lt-ltb _ _ l)
 
   module _ (l : prev ≤ st.horizon) where
-    pub say_conflict : (s : ℕ) → compared_as (against st prev curr stamps) ≡ Differ s → Refused (Conflict s) ≡ judge_gossip st prev curr stamps
+    pub say_conflict : (s : ℕ) → differing_in (against st prev curr stamps) ≡ Some s → Refused (Conflict s) ≡ judge_gossip st prev curr stamps
     unfolding judge_gossip
     say_conflict s e = rw (le-ltb _ _ l, as_differ (against st prev curr stamps) s e)
 
-    module _ (e : compared_as (against st prev curr stamps) ≡ Same) where
+    module _ (e : differing_in (against st prev curr stamps) ≡ None) where
       pub say_idle : curr ≤ st.horizon → Idle ≡ judge_gossip st prev curr stamps
       unfolding judge_gossip
       say_idle h = rw (le-ltb _ _ l, as_same (against st prev curr stamps) e, le-leb _ _ h)

@@ -1,26 +1,23 @@
 -- What the writer of a gossip message asks and promises. The tables that it isn't lent may be any.
-use Rattle.std.specs.Prelude.{ℕ, ◌+◌, ◌≤◌, ◌<◌, ◌≡◌, true, List, ◌++◌, length, take, drop, get_or, ltb, leb}
+use Rattle.std.specs.Prelude.{ℕ, ◌+◌, ◌≤◌, ◌<◌, ◌≡◌, true, List, [], ◌∷◌, ◌++◌, length, take, drop, ltb, leb, Option, Some, None}
 use Rattle.model.specs.Lists.{all_b, kept, rising_from}
 use Rattle.model.specs.Store.{live_b}
 use Rattle.model.specs.Judgement as judgement
 use Rattle.model.specs.Changes.{gossip_store}
 use Rattle.tables.specs.declared.Heads.{Heads}
 use Rattle.tables.specs.declared.Store.{Store}
-use Rattle.tables.specs.Rows.{pasts, copy_heads, copies_of}
+use Rattle.tables.specs.Rows.{past_of, pasts, copy_heads, copies_of, up_to}
 use Rattle.tables.specs.Contents.{contents, stored, Counted}
-use Rattle.gossips.specs.declared.Compared.{Compared}
-use Rattle.gossips.specs.declared.Compared.TheVariants.{Same, Differ}
 
--- the code's comparison is the model's
-abbrev pub compared_as : judgement.Compared → Compared
-compared_as judgement.same = Same
-compared_as (judgement.differ s) = Differ s
+-- the first stamp in which two lists differ, where they do
+abbrev pub differing_in : judgement.Compared → Option ℕ
+differing_in judgement.same = None
+differing_in (judgement.differ s) = Some s
 
--- no stamp passed from i to r is up to the bound, and the one at r is, where there is one
-pub record Skipped (stamps : List ℕ) (upto i r : ℕ) : Type 0 where
-  pub inside : r ≤ length stamps
-  pub left : kept (λ s. leb s upto) (drop i stamps) ≡ kept (λ s. leb s upto) (drop r stamps)
-  pub found : r < length stamps → leb (get_or stamps r 0) upto ≡ true
+-- the first of the stamps up to a bound from i on, if there is one: it stands at i
+abbrev pub Told : List ℕ → ℕ → ℕ → Option ℕ → Type 0
+Told stamps upto i None = kept (λ s. leb s upto) (drop i stamps) ≡ []
+Told stamps upto i (Some s) = kept (λ s. leb s upto) (drop i stamps) ≡ s ∷ kept (λ s. leb s upto) (drop (i + 1) stamps)
 
 -- the stamps beyond the horizon stand behind the first n snapshots; r is the new count
 pub record Added (snapshots snapshots' : List ℕ) (n r horizon : ℕ) (stamps : List ℕ) : Type 0 where
@@ -74,3 +71,38 @@ pub record AppliedAnew (store store' : Store) (curr : ℕ) (stamps : List ℕ) :
   pub contains : stored store' ≡ gossip_store (stored store) curr stamps
   pub counted : Counted store'.heads
   pub untouched : Untouched store store'
+
+-- a store with another table and count of past values
+abbrev pub with_past : Store → List (List ℕ) → ℕ → Store
+with_past store past n = record {
+  written = record { disk = store.written.disk; dated = store.written.dated; pending = store.written.pending; past = past };
+  snapshots = store.snapshots;
+  copies = store.copies;
+  copied = store.copied;
+  heads = record { pending = store.heads.pending; past = n; snapshots = store.heads.snapshots; copies = store.heads.copies; horizon = store.heads.horizon; last = store.heads.last };
+}
+
+-- the past values that are live by a horizon are left, and nothing else has changed
+pub record LivesOn (store store' : Store) (horizon : ℕ) : Type 0 where
+  pub live : (stored store').past ≡ kept (live_b horizon (stored store).snapshots (stored store).copies) (stored store).past
+  pub count : store'.heads.past ≤ store.heads.past
+  pub same : store' ≡ with_past store store'.written.past store'.heads.past
+
+-- a store with other snapshots, or another horizon
+abbrev pub with_snapshots : Store → List ℕ → ℕ → Store
+with_snapshots store snapshots n = record {
+  written = store.written;
+  snapshots = snapshots;
+  copies = store.copies;
+  copied = store.copied;
+  heads = record { pending = store.heads.pending; past = store.heads.past; snapshots = n; copies = store.heads.copies; horizon = store.heads.horizon; last = store.heads.last };
+}
+
+abbrev pub with_horizon : Store → ℕ → Store
+with_horizon store horizon = record {
+  written = store.written;
+  snapshots = store.snapshots;
+  copies = store.copies;
+  copied = store.copied;
+  heads = record { pending = store.heads.pending; past = store.heads.past; snapshots = store.heads.snapshots; copies = store.heads.copies; horizon = horizon; last = store.heads.last };
+}

@@ -1,82 +1,52 @@
 // A gossip message without its journal: judged over the tables, then written to them. Restart uses both as they stand.
 #![tactic(auto)]
 
-ghost use Rattle.std.specs.Prelude.{◌≡◌, true, List, [], ℕ, ◌+◌, ◌≤◌, min, length, take, drop, ltb, leb};
+ghost use Rattle.std.specs.Prelude.{◌≡◌, true, List, [], ℕ, ◌+◌, ◌≤◌, length, take, drop, ltb, leb};
+ghost use Rattle.model.specs.Store as model;
 ghost use Rattle.model.specs.Lists.{both, all_b, kept, rising_from};
 ghost use Rattle.model.specs.Judgement.{compared, judge_gossip};
 ghost use Rattle.tables.specs.Rows.{pasts, copy_heads};
-ghost use Rattle.tables.specs.Contents.{contents, stored};
-ghost use Rattle.gossips.specs.Promises.{compared_as, Skipped, Added, Dropped, Ready, ReadyAnew, Applied, AppliedAnew};
+ghost use Rattle.tables.specs.Contents.{contents, stored, Counted};
+ghost use Rattle.gossips.specs.Promises.{differing_in, Told, LivesOn, Added, Dropped, Ready, ReadyAnew, Applied, AppliedAnew};
 
 use model::{Answer, Verdict};
 use tables::{CopyTable, Heads, PastTable, Snapshots, Store, Written};
 
-// How a message's stamps stand against the known snapshots.
-#[derive(Clone, Copy)]
-pub enum Compared {
-    Same,
-    Differ(u64),
-}
-
-// The smaller of two stamps.
-fn smaller(a: u64, b: u64) -> u64
-    ensures { result ≡ min a b }
-{
-    if a <= b { a } else { b }
-}
-
-// The index from i on of the first stamp up to a bound, or the length: behind a stamp beyond the bound all are.
-fn skip(stamps: &[u64], upto: u64, i: usize) -> usize
-    requires { (i ≤ length stamps.now) × (rising_from 0 stamps.now ≡ true) }
-    ensures { Skipped stamps.now upto i result }
+// The stamp at a place, where it is up to a bound: behind one beyond the bound all are.
+fn told(stamps: &[u64], upto: u64, i: usize) -> Option<u64>
+    requires { rising_from 0 stamps.now ≡ true }
+    ensures { Told stamps.now upto i result }
 {
     if i < stamps.len() {
         if stamps[i] <= upto {
-            return i;
+            return Some(stamps[i]);
         }
     }
-    stamps.len()
+    None
 }
 
-// Where no known snapshot is ahead: a stamp from i on, up to the bound, is one too many.
-fn against_none(stamps: &[u64], upto: u64, i: usize) -> Compared
-    requires { (i ≤ length stamps.now) × (rising_from 0 stamps.now ≡ true) }
-    ensures { result ≡ compared_as (compared (kept (λ s. leb s upto) (drop i stamps.now)) []) }
+// The first stamp in which a message's stamps up to a bound and the known ones beyond prev up to there differ. The known ones
+// ascend, so that the first beyond prev is searched, and the first beyond the bound ends the comparison.
+fn differing(known: &[u64], prev: u64, upto: u64, stamps: &[u64]) -> Option<u64>
+    requires { (rising_from 0 stamps.now ≡ true) × (rising_from 0 known.now ≡ true) }
+    ensures { result ≡ differing_in (compared (kept (λ s. leb s upto) stamps.now) (kept (λ s. both (ltb prev s) (leb s upto)) known.now)) }
 {
-    let k = skip(stamps, upto, i);
-    if k < stamps.len() {
-        return Compared::Differ(stamps[k]);
+    let heard = &known[count_known(known, prev)..];
+    for (i, y) in heard.iter().enumerate() {
+        let x = told(stamps, upto, i);
+        if upto < *y {
+            return x;
+        }
+        match x {
+            None => return Some(*y),
+            Some(x) => {
+                if x != *y {
+                    return Some(x.min(*y));
+                }
+            }
+        }
     }
-    Compared::Same
-}
-
-// The message's stamps up to a bound against the known ones beyond prev up to there. Those ascend, so that the first beyond
-// prev is searched, and the first beyond the bound ends the comparison.
-fn compare(snapshots: &Snapshots, known: usize, prev: u64, upto: u64, stamps: &[u64]) -> Compared
-    requires { (known ≤ 64) × (length snapshots.now ≡ 64) × (rising_from 0 stamps.now ≡ true) × (rising_from 0 (take known snapshots.now) ≡ true) }
-    ensures { result ≡ compared_as (compared (kept (λ s. leb s upto) stamps.now) (kept (λ s. both (ltb prev s) (leb s upto)) (take known snapshots.now))) }
-{
-    let all = &snapshots[..];
-    let heard = &all[..known];
-    let mut i: usize = 0;
-    let mut j = count_known(heard, prev);
-    while j < heard.len() {
-        let y = heard[j];
-        if upto < y {
-            return against_none(stamps, upto, i);
-        }
-        i = skip(stamps, upto, i);
-        if i == stamps.len() {
-            return Compared::Differ(y);
-        }
-        let x = stamps[i];
-        if x != y {
-            return Compared::Differ(smaller(x, y));
-        }
-        i += 1;
-        j += 1;
-    }
-    against_none(stamps, upto, i)
+    told(stamps, upto, heard.len())
 }
 
 // How many of the stamps, which ascend, lie up to the horizon.
@@ -109,6 +79,27 @@ fn leap(stamps: &[u64], horizon: u64) -> usize
     k
 }
 
+// What a store with these snapshots and this horizon says of the message, whatever else it holds.
+fn judge(known: &[u64], horizon: u64, prev: u64, curr: u64, stamps: &[u64]) -> Verdict
+    requires short { (length known.now ≤ 64) × (length stamps.now ≤ 16) }
+    requires rising { (rising_from prev stamps.now ≡ true) × (rising_from 0 known.now ≡ true) }
+    ensures { (st : model.Store) → st.snapshots ≡ known.now → st.horizon ≡ horizon → result ≡ judge_gossip st prev curr stamps.now }
+{
+    if horizon < prev {
+        return Verdict::Refused(Answer::Gap(horizon));
+    }
+    if let Some(s) = differing(known, prev, curr.min(horizon), stamps) {
+        return Verdict::Refused(Answer::Conflict(s));
+    }
+    if curr <= horizon {
+        return Verdict::Idle;
+    }
+    if 64 - known.len() < stamps.len() - count_known(stamps, horizon) {
+        return Verdict::Refused(Answer::SnapshotsFull);
+    }
+    Verdict::Accepted
+}
+
 // What the store says of the message: Gap, Conflict, nothing new, Snapshots full, or accepted.
 pub fn judge_gossip(
     snapshots: &Snapshots,
@@ -120,22 +111,13 @@ pub fn judge_gossip(
     requires { (length snapshots.now ≡ 64) × (h.snapshots ≤ 64) × (length stamps.now ≤ 16) × (rising_from prev stamps.now ≡ true) × (rising_from 0 (take h.snapshots snapshots.now) ≡ true) }
     ensures { (disk dated : List ℕ) (pending past copies : List (List ℕ)) (copied : List ℕ) → result ≡ judge_gossip (contents disk dated pending past snapshots.now copies copied h) prev curr stamps.now }
 {
-    if h.horizon < prev {
-        return Verdict::Refused(Answer::Gap(h.horizon));
-    }
-    let upto = smaller(curr, h.horizon);
-    match compare(snapshots, h.snapshots, prev, upto, stamps) {
-        Compared::Differ(s) => Verdict::Refused(Answer::Conflict(s)),
-        Compared::Same => {
-            if curr <= h.horizon {
-                return Verdict::Idle;
-            }
-            if 64 - h.snapshots < stamps.len() - count_known(stamps, h.horizon) {
-                return Verdict::Refused(Answer::SnapshotsFull);
-            }
-            Verdict::Accepted
-        }
-    }
+    judge(
+        &snapshots[..h.snapshots],
+        h.horizon,
+        prev,
+        curr,
+        stamps,
+    )
 }
 
 // Writes the stamps beyond the horizon behind the first n snapshots; the result is the new count.
@@ -143,14 +125,10 @@ fn add_known(snapshots: &mut Snapshots, n: usize, horizon: u64, stamps: &[u64]) 
     requires { (length snapshots.old ≡ 64) × (n + length (kept (ltb horizon) stamps.now) ≤ 64) × (rising_from 0 stamps.now ≡ true) }
     ensures { Added snapshots.old snapshots.new n result horizon stamps.now }
 {
-    let mut k = n;
-    let mut i = count_known(stamps, horizon);
-    while i < stamps.len() {
-        snapshots[k] = stamps[i];
-        k += 1;
-        i += 1;
-    }
-    k
+    let new = &stamps[count_known(stamps, horizon)..];
+    let known = n + new.len();
+    snapshots[n..known].copy_from_slice(new);
+    known
 }
 
 // Dead past values go, those of every page; the result is the count of the others.
@@ -171,7 +149,7 @@ fn drop_rows(
     }
     let mut marks = [0u64; 32];
     tables::lookups::marks_of(copies, m, &mut marks);
-    tables::dropping::drop_dead(past, n, 32, horizon, snapshots, known, &marks)
+    tables::dropping::drop_dead(past, n, None, horizon, snapshots, known, &marks)
 }
 
 // Stamps beyond the horizon become known, the horizon moves, and dead past values go.
@@ -205,7 +183,13 @@ pub fn judge_gossip_anew(store: &Store, prev: u64, curr: u64, stamps: &[u64]) ->
     requires rising { rising_from 0 (take store.now.heads.snapshots store.now.snapshots) ≡ true }
     ensures { result ≡ judge_gossip (stored store.now) prev curr stamps.now }
 {
-    judge_gossip(&store.snapshots, store.heads, prev, curr, stamps)
+    judge(
+        &store.snapshots[..store.heads.snapshots],
+        store.heads.horizon,
+        prev,
+        curr,
+        stamps,
+    )
 }
 
 // The past values have the rows of their type, which a contract knows of a table, and not of one in a struct in a struct.
@@ -215,19 +199,42 @@ fn rows(written: &Written)
     let _ = &written.past;
 }
 
+// Dead past values go, those of every page, by a horizon.
+#[tactic(auto, using(tables::proofs::Rows::copies_length))]
+fn drop_past(store: &mut Store, horizon: u64)
+    requires counted { Counted store.old.heads }
+    requires pages_in { all_b (λ c. ltb c.page 32) (take store.old.heads.copies (copy_heads store.old.copies)) ≡ true }
+    requires rising { rising_from 0 (take store.old.heads.snapshots store.old.snapshots) ≡ true }
+    ensures { LivesOn store.old store.new horizon }
+{
+    if store.heads.past == 0 {
+        return;
+    }
+    rows(&store.written);
+    let mut marks = [0u64; 32];
+    tables::lookups::marks_of(&store.copies, store.heads.copies, &mut marks);
+    store.heads.past = tables::dropping::drop_dead(
+        &mut store.written.past,
+        store.heads.past,
+        None,
+        horizon,
+        &store.snapshots,
+        store.heads.snapshots,
+        &marks,
+    );
+}
+
 // Stamps beyond the horizon become known, the horizon moves, and dead past values go.
 pub fn apply_gossip_anew(store: &mut Store, curr: u64, stamps: &[u64])
     requires { ReadyAnew store.old stamps.now }
     ensures { AppliedAnew store.old store.new curr stamps.now }
 {
-    rows(&store.written);
-    let h = store.heads;
-    store.heads = apply_gossip(
-        &mut store.written.past,
+    store.heads.snapshots = add_known(
         &mut store.snapshots,
-        &store.copies,
-        h,
-        curr,
+        store.heads.snapshots,
+        store.heads.horizon,
         stamps,
     );
+    drop_past(store, curr);
+    store.heads.horizon = curr;
 }

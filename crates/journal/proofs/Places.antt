@@ -81,9 +81,9 @@ module _ {whole j₀ j : List ℕ} {at₀ at : ℕ} (ss : List ℕ) (k : ℕ) (l
   stamps_end h = left_last (moved_none j at) (rw (drop_of_length-le ss h) at l)
 
 module _ {whole j₀ j : List ℕ} {at₀ at : ℕ} (os vs : List ℕ) (k : ℕ) (l : Left whole (write_bytes (paired (drop k os) (drop k vs))) j₀ at₀ j at) where
-  pub writes_turn : k < length os → k < length vs
-      → Left whole (be 2 (get_or os k 0) ++ (be 8 (get_or vs k 0) ++ write_bytes (paired (drop (k + 1) os) (drop (k + 1) vs)))) j₀ at₀ j at
-  writes_turn h i = rw add-one (rw (drop-cons os k 0 h, drop-cons vs k 0 i) at l)
+  pub writes_turn : {o v : ℕ} → k < length os → k < length vs → o ≡ get_or os k 0 → v ≡ get_or vs k 0
+      → Left whole (be 2 o ++ (be 8 v ++ write_bytes (paired (drop (k + 1) os) (drop (k + 1) vs)))) j₀ at₀ j at
+  writes_turn h i o v = rw (o, v, add-one) (rw (drop-cons os k 0 h, drop-cons vs k 0 i) at l)
 
   pub writes_end : length os ≤ k → Moved whole j₀ at₀ j at
   writes_end h = left_last (moved_none j at) (rw (drop_of_length-le os h) at l)

@@ -7,16 +7,18 @@ use native.Mathlib.Omega.{arith}
 use lib.ListN.{length, take, drop, get_or, replicate, length-append, length-drop, length-take, drop_of_length-le}
 use lib.Seq.{length-take-le, take_at, drop-drop, get_or-drop}
 use lib.Dec.{ltb}
-use borrow.Author.Tests.{lt-ltb, le-ltb, lt-leb, eq-eqb, ne_eqb}
+use borrow.Author.Tests.{ltb-true, ltb-false, lt-ltb, le-ltb, lt-leb, eq-eqb, ne_eqb}
 use Rattle.model.specs.Lists.{both, empty_b, twice_b}
 use Rattle.model.specs.Bytes.{column, from_be}
 use Rattle.model.specs.Changes.{Change, objects_of, paired}
 use Rattle.model.specs.Judgement.{well_formed, objects_shaped, stamps_shaped}
 use Rattle.model.specs.Records as records
 use Rattle.model.specs.Records.{length_of, commit_in, gossip_in, flush_in, checked, decode, bad, good, short, malformed, sized, step_of, step_on, step_at}
+use Rattle.rules.proofs.Marks.{by_test}
+use Rattle.journal.specs.Counts.{Counted, Uncounted}
 use Rattle.journal.specs.Heads.{head_of, head_decoded, head_step}
 use Rattle.journal.specs.declared.walk.Record.{Record}
-use Rattle.journal.specs.declared.walk.Record.TheVariants.{Commit, Gossip, Flush}
+use Rattle.journal.specs.declared.walk.Record.TheVariants.{Commit, Gossip}
 use Rattle.std.specs.Prelude.{Some, None}
 use Rattle.std.specs.declared.option.Option.{Option}
 use Rattle.journal.specs.declared.walk.Step.{Step}
@@ -111,20 +113,27 @@ module _ (b : List ℕ) where
   commit_formed : well_formed (commit_in b) ≡ fine_b (objects_in b)
   commit_formed = rw (paired_objects (objects_in b) (column 8 10 (get_or b 8 0) (drop 11 b)) same_length)
 
-  pub commit_missized : (length b ≡ 9 + 10 * get_or b 8 0 → ⊥) → None ≡ head_decoded (checked (length b + 1) (commit_in b))
+  commit_missized : (length b ≡ 9 + 10 * get_or b 8 0 → ⊥) → None ≡ head_decoded (checked (length b + 1) (commit_in b))
   commit_missized h = missized (length b + 1) (commit_in b) (λ e. h (omega (arith, commit_length, e)))
 
-  pub commit_over : 16 < get_or b 8 0 → None ≡ head_decoded (checked (length b + 1) (commit_in b))
+  commit_over : 16 < get_or b 8 0 → None ≡ head_decoded (checked (length b + 1) (commit_in b))
   commit_over h =
       let l : 16 < length (objects_in b) = omega (arith, column_length 2 10 (get_or b 8 0) (drop 9 b)) in
       misshapen (length b + 1) (commit_in b) (commit_formed ∙ rw (objects_over (objects_in b) l))
 
-  pub commit_misshapen : fine_b (objects_in b) ≡ false → None ≡ head_decoded (checked (length b + 1) (commit_in b))
-  commit_misshapen f = misshapen (length b + 1) (commit_in b) (commit_formed ∙ f)
+  pub commit_uncounted : Uncounted b 9 10 → None ≡ head_decoded (checked (length b + 1) (commit_in b))
+  commit_uncounted u =
+      by_test (ltb 16 (get_or b 8 0))
+      (λ t. commit_over (ltb-true 16 (get_or b 8 0) t))
+      (λ t. commit_missized (λ e. u.none (ltb-false 16 (get_or b 8 0) t) e))
 
-  pub commit_sound : {t : ℕ} → t ≡ from_be (take 8 b) → length b ≡ 9 + 10 * get_or b 8 0 → fine_b (objects_in b) ≡ true
-      → Some (Commit (record { stamp = t; count = get_or b 8 0 })) ≡ head_decoded (checked (length b + 1) (commit_in b))
-  commit_sound e l f = sound (length b + 1) (commit_in b) (rw (e, commit_count)) (omega (arith, commit_length)) (commit_formed ∙ f)
+  module _ {n : ℕ} (k : Counted b 9 10 n) where
+    pub commit_misshapen : fine_b (column 2 10 n (drop 9 b)) ≡ false → None ≡ head_decoded (checked (length b + 1) (commit_in b))
+    commit_misshapen f = misshapen (length b + 1) (commit_in b) (commit_formed ∙ (rw k.told at f))
+
+    pub commit_sound : {t : ℕ} → t ≡ from_be (take 8 b) → fine_b (column 2 10 n (drop 9 b)) ≡ true
+        → Some (Commit (record { stamp = t; count = n })) ≡ head_decoded (checked (length b + 1) (commit_in b))
+    commit_sound e f = sound (length b + 1) (commit_in b) (rw (e, k.told, commit_count)) (omega (arith, commit_length, k.fits, k.told)) (commit_formed ∙ (rw k.told at f))
 
 -- ---- a gossip message's body
 abbrev pub stamps_in : List ℕ → List ℕ
@@ -137,35 +146,25 @@ module _ (b : List ℕ) where
   gossip_formed : well_formed (gossip_in b) ≡ stamps_shaped (from_be (take 8 b)) (from_be (take 8 (drop 8 b))) (stamps_in b)
   gossip_formed = both_true _
 
-  pub gossip_missized : (length b ≡ 17 + 8 * get_or b 16 0 → ⊥) → None ≡ head_decoded (checked (length b + 1) (gossip_in b))
+  gossip_missized : (length b ≡ 17 + 8 * get_or b 16 0 → ⊥) → None ≡ head_decoded (checked (length b + 1) (gossip_in b))
   gossip_missized h = missized (length b + 1) (gossip_in b) (λ e. h (omega (arith, gossip_count, e)))
 
-  pub gossip_over : 16 < get_or b 16 0 → None ≡ head_decoded (checked (length b + 1) (gossip_in b))
+  gossip_over : 16 < get_or b 16 0 → None ≡ head_decoded (checked (length b + 1) (gossip_in b))
   gossip_over h =
       let l : 16 < length (stamps_in b) = omega (arith, gossip_count) in
       misshapen (length b + 1) (gossip_in b) (gossip_formed ∙ stamps_over _ _ (stamps_in b) l)
 
-  module _ {prev curr : ℕ} (p : prev ≡ from_be (take 8 b)) (q : curr ≡ from_be (take 8 (drop 8 b))) where
-    same_form : well_formed (gossip_in b) ≡ stamps_shaped prev curr (stamps_in b)
-    same_form = rw (p, q) gossip_formed
+  pub gossip_uncounted : Uncounted b 17 8 → None ≡ head_decoded (checked (length b + 1) (gossip_in b))
+  gossip_uncounted u =
+      by_test (ltb 16 (get_or b 16 0))
+      (λ t. gossip_over (ltb-true 16 (get_or b 16 0) t))
+      (λ t. gossip_missized (λ e. u.none (ltb-false 16 (get_or b 16 0) t) e))
 
-    pub gossip_misshapen : stamps_shaped prev curr (stamps_in b) ≡ false → None ≡ head_decoded (checked (length b + 1) (gossip_in b))
-    gossip_misshapen f = misshapen (length b + 1) (gossip_in b) (same_form ∙ f)
-
-    pub gossip_sound : length b ≡ 17 + 8 * get_or b 16 0 → stamps_shaped prev curr (stamps_in b) ≡ true
-        → Some (Gossip (record { prev = prev; curr = curr; count = get_or b 16 0 })) ≡ head_decoded (checked (length b + 1) (gossip_in b))
-    gossip_sound l f = sound (length b + 1) (gossip_in b) (rw (p, q, gossip_count)) (omega (arith, gossip_count)) (same_form ∙ f)
-
--- ---- a flush's body
-module _ (b : List ℕ) where
-  pub flush_missized : (length b ≡ 1 → ⊥) → None ≡ head_decoded (checked (length b + 1) (flush_in b))
-  flush_missized h = missized (length b + 1) (flush_in b) (λ e. h (omega arith))
-
-  pub flush_over : 32 ≤ get_or b 0 0 → None ≡ head_decoded (checked (length b + 1) (flush_in b))
-  flush_over h = misshapen (length b + 1) (flush_in b) (rw (le-ltb (get_or b 0 0) 32 h))
-
-  pub flush_sound : length b ≡ 1 → get_or b 0 0 < 32 → Some (Flush (record { page = get_or b 0 0 })) ≡ head_decoded (checked (length b + 1) (flush_in b))
-  flush_sound l h = sound (length b + 1) (flush_in b) refl (omega arith) (rw (lt-ltb (get_or b 0 0) 32 h))
+  pub gossip_sound : {prev curr n : ℕ} → Counted b 17 8 n → prev ≡ from_be (take 8 b) → curr ≡ from_be (take 8 (drop 8 b))
+      → stamps_shaped prev curr (column 8 8 n (drop 17 b)) ≡ true
+      → Some (Gossip (record { prev = prev; curr = curr; count = n })) ≡ head_decoded (checked (length b + 1) (gossip_in b))
+  gossip_sound k p q f =
+      sound (length b + 1) (gossip_in b) (rw (p, q, k.told, gossip_count)) (omega (arith, gossip_count, k.fits, k.told)) (gossip_formed ∙ (rw (p, q, k.told) at f))
 
 -- ---- a step: the length, then the record
 nonempty : (l : List ℕ) → 0 < length l → empty_b l ≡ false
@@ -226,11 +225,17 @@ module _ (s : List ℕ) (at : ℕ) where
         let m : 2 ≤ length (drop at s) = omega arith in
         rw (e, nonempty (drop at s) o, le-ltb (length (drop at s)) 2 m, drop-drop 2 at s)
 
-    pub at_small : n < 2 → Malformed at ≡ head_step (step_at s at)
+    at_small : n < 2 → Malformed at ≡ head_step (step_at s at)
     at_small h = rw (at_sized, sized_small n (drop (at + 2) s) at h)
 
-    pub at_large : 170 < n → Malformed at ≡ head_step (step_at s at)
+    at_large : 170 < n → Malformed at ≡ head_step (step_at s at)
     at_large h = rw (at_sized, sized_large n (drop (at + 2) s) at h)
+
+    pub at_outside : (2 ≤ n → n ≤ 170 → ⊥) → Malformed at ≡ head_step (step_at s at)
+    at_outside h =
+        by_test (ltb n 2)
+        (λ t. at_small (ltb-true n 2 t))
+        (λ t. by_test (ltb 170 n) (λ u. at_large (ltb-true 170 n u)) (λ u. absurd (h (ltb-false n 2 t) (ltb-false 170 n u))))
 
     module _ (lo : 2 ≤ n) (hi : n ≤ 170) where
       pub at_cut : length s - at - 2 < n → Short ≡ head_step (step_at s at)

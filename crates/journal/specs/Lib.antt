@@ -1,2 +1,4 @@
+pub mod Counts
 pub mod Heads
+pub mod Kinds
 pub mod Places

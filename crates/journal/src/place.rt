@@ -7,10 +7,15 @@ ghost use Rattle.model.specs.Records.{encode, write_bytes, stamp_bytes};
 ghost use Rattle.model.specs.Calls.{version, reached};
 ghost use Rattle.journal.specs.Places.{Moved, Appended};
 
+use crate::kind::Kind;
+
 #[derive(Clone, Copy, PartialEq, Eq, Debug)]
 pub struct Place {
     pub at: usize,
 }
+
+// The journal's byte 0.
+pub const VERSION: u64 = 1;
 
 // Where the fields of a gossip record stand behind its length.
 pub const KIND_AT: usize = 2;
@@ -40,11 +45,8 @@ impl Place {
         ensures { Moved (write_bytes (paired objects.now values.now)) j.old self.at j.new result.at }
     {
         let mut p = self;
-        let mut k: usize = 0;
-        while k < objects.len() {
-            p = p.put(j, 2, objects[k]);
-            p = p.put(j, 8, values[k]);
-            k += 1;
+        for (object, value) in objects.iter().zip(values) {
+            p = p.put(j, 2, *object).put(j, 8, *value);
         }
         p
     }
@@ -55,10 +57,8 @@ impl Place {
         ensures { Moved (stamp_bytes stamps.now) j.old self.at j.new result.at }
     {
         let mut p = self;
-        let mut k: usize = 0;
-        while k < stamps.len() {
-            p = p.put(j, 8, stamps[k]);
-            k += 1;
+        for stamp in stamps {
+            p = p.put(j, 8, *stamp);
         }
         p
     }
@@ -68,11 +68,11 @@ impl Place {
         ensures { Moved (encode (commit t (paired objects.now values.now))) j.old self.at j.new result.at }
     {
         let count = objects.len() as u64;
-        let a = self.put(j, 2, 10 + 10 * count);
-        let b = a.put(j, 1, 1);
-        let c = b.put(j, 8, t);
-        let d = c.put(j, 1, count);
-        d.put_writes(j, objects, values)
+        self.put(j, 2, 10 + 10 * count)
+            .put(j, 1, Kind::Commit as u64)
+            .put(j, 8, t)
+            .put(j, 1, count)
+            .put_writes(j, objects, values)
     }
 
     // A gossip record. Each of its two long fields comes first behind a branch or a loop: there the compiler makes one store of it, elsewhere eight.
@@ -84,7 +84,7 @@ impl Place {
         let count = stamps.len() as u64;
         fields::put_be(j, at + PREV_AT, 8, prev);
         fields::put_be(j, at, 2, 18 + 8 * count);
-        fields::put_be(j, at + KIND_AT, 1, 2);
+        fields::put_be(j, at + KIND_AT, 1, Kind::Gossip as u64);
         fields::put_be(j, at + COUNT_AT, 1, count);
         let rows = Place { at: at + STAMPS_AT };
         let end = rows.put_stamps(j, stamps);
@@ -96,9 +96,9 @@ impl Place {
         requires { self.at + 4 ≤ length j.old }
         ensures { Moved (encode (flush page)) j.old self.at j.new result.at }
     {
-        let a = self.put(j, 2, 2);
-        let b = a.put(j, 1, 3);
-        b.put(j, 1, page)
+        self.put(j, 2, 2)
+            .put(j, 1, Kind::Flush as u64)
+            .put(j, 1, page)
     }
 
     // The version byte, where the journal is empty.
@@ -107,7 +107,7 @@ impl Place {
         ensures { Moved (pick (eqb self.at 0) (version ∷ []) []) j.old self.at j.new result.at }
     {
         if self.at == 0 {
-            return self.put(j, 1, 1);
+            return self.put(j, 1, VERSION);
         }
         self
     }
@@ -130,23 +130,20 @@ impl Place {
         requires { (length objects.now ≡ length values.now) × (length objects.now ≤ 16) × (reached self.at (commit t (paired objects.now values.now)) ≤ length j.old) }
         ensures { Appended (commit t (paired objects.now values.now)) j.old self.at j.new result.at }
     {
-        let p = self.begun(j);
-        p.put_commit(j, t, objects, values)
+        self.begun(j).put_commit(j, t, objects, values)
     }
 
     pub fn append_gossip(self, j: &mut [u8], prev: u64, curr: u64, stamps: &[u64]) -> Place
         requires { (length stamps.now ≤ 16) × (reached self.at (gossip prev curr stamps.now) ≤ length j.old) }
         ensures { Appended (gossip prev curr stamps.now) j.old self.at j.new result.at }
     {
-        let p = self.begun(j);
-        p.put_gossip(j, prev, curr, stamps)
+        self.begun(j).put_gossip(j, prev, curr, stamps)
     }
 
     pub fn append_flush(self, j: &mut [u8], page: u64) -> Place
         requires { reached self.at (flush page) ≤ length j.old }
         ensures { Appended (flush page) j.old self.at j.new result.at }
     {
-        let p = self.begun(j);
-        p.put_flush(j, page)
+        self.begun(j).put_flush(j, page)
     }
 }

@@ -6,32 +6,31 @@ ghost use Rattle.journal.specs.Heads.{head_step};
 use crate::place::Place;
 use crate::walk::Step;
 
-#[derive(Clone, Copy)]
+#[derive(Clone, Copy, PartialEq, Eq, Debug)]
 pub struct Reader<'a> {
     pub journal: &'a [u8],
     pub place: Place,
 }
 
-pub fn open<'a>(journal: &'a [u8], place: Place) -> Reader<'a>
-    ensures { (result.journal ≡ journal.entry) × (result.place ≡ place) }
-{
-    Reader { journal, place }
-}
+impl<'a> Reader<'a> {
+    pub fn open(journal: &'a [u8], place: Place) -> Reader<'a>
+        ensures { (result.journal ≡ journal.entry) × (result.place ≡ place) }
+    {
+        Reader { journal, place }
+    }
 
-// What stands at the reader's place.
-pub fn next<'a>(r: Reader<'a>) -> Step
-    ensures { result ≡ head_step (step_at r.entry.journal.now r.entry.place.at) }
-{
-    crate::walk::step_at(r.journal, r.place)
-}
+    // What stands at the reader's place.
+    pub fn next(self) -> Step
+        ensures { result ≡ head_step (step_at self.entry.journal.now self.entry.place.at) }
+    {
+        crate::walk::step_at(self.journal, self.place)
+    }
 
-// The same journal, at another place.
-pub fn after<'a>(r: Reader<'a>, place: Place) -> Reader<'a>
-    ensures { (result.journal ≡ r.entry.journal) × (result.place ≡ place) }
-{
-    Reader {
-        journal: r.journal,
-        place,
+    // The same journal, at another place.
+    pub fn after(self, place: Place) -> Reader<'a>
+        ensures { (result.journal ≡ self.entry.journal) × (result.place ≡ place) }
+    {
+        Reader { place, ..self }
     }
 }
 
@@ -39,5 +38,5 @@ pub fn after<'a>(r: Reader<'a>, place: Place) -> Reader<'a>
 pub fn read_at(s: &[u8], p: Place) -> Step
     ensures { result ≡ head_step (step_at s.now p.at) }
 {
-    next(open(s, p))
+    Reader::open(s, p).next()
 }

@@ -1,11 +1,13 @@
 // What stands at a place of the journal. A record is told by its head; the rows of its list stay where they are.
-ghost use Rattle.std.specs.Prelude.{◌≡◌, not, ◌≤◌, ◌+◌, ◌*◌, length, drop};
+ghost use Rattle.std.specs.Prelude.{◌≡◌, not, ◌<◌, ◌≤◌, ◌+◌, ◌*◌, ◌^◌, length, drop, MatchOption};
 ghost use Rattle.model.specs.Lists.{both, twice_b};
 ghost use Rattle.model.specs.Bytes.{column};
 ghost use Rattle.model.specs.Judgement.{objects_shaped, stamps_shaped};
 ghost use Rattle.model.specs.Records.{commit_in, gossip_in, flush_in, checked, decode, step_at};
 ghost use Rattle.journal.specs.Heads.{head_decoded, head_step};
+ghost use Rattle.journal.specs.Counts.{Counted, Uncounted};
 
+use crate::kind::Kind;
 use crate::place::Place;
 
 #[derive(Clone, Copy, PartialEq, Eq, Debug)]
@@ -42,6 +44,21 @@ pub enum Step {
     Whole { record: Record, next: Place },
 }
 
+// How many rows of so many bytes a body has behind its front, whose last byte tells it: at most sixteen, and the body ends with them.
+fn rows(body: &[u8], front: usize, row: usize) -> Option<usize>
+    requires { (0 < front) × (front + 16 * row < 2 ^ 64) }
+    ensures { MatchOption result (Uncounted body.now front row) (Counted body.now front row) }
+{
+    let count = usize::from(*body.get(front - 1)?);
+    if 16 < count {
+        return None;
+    }
+    if body.len() != front + row * count {
+        return None;
+    }
+    Some(count)
+}
+
 // The objects of a commit's body keep the Shape and Twice rules.
 fn objects_good(body: &[u8], count: usize) -> bool
     requires { (9 + 10 * count ≡ length body.now) × (count ≤ 16) }
@@ -54,10 +71,7 @@ fn objects_good(body: &[u8], count: usize) -> bool
     let mut room = [0u64; 16];
     fields::get_column(body, 9, 10, 2, &mut room[..count]);
     let objects = &room[..count];
-    if !rules::objects_shaped(objects) {
-        return false;
-    }
-    !rules::named_twice(objects)
+    rules::objects_shaped(objects) && !rules::named_twice(objects)
 }
 
 fn stamps_good(body: &[u8], count: usize, prev: u64, curr: u64) -> bool
@@ -73,65 +87,48 @@ fn stamps_good(body: &[u8], count: usize, prev: u64, curr: u64) -> bool
 fn read_commit(body: &[u8]) -> Option<Record>
     ensures { result ≡ head_decoded (checked (length body.now + 1) (commit_in body.now)) }
 {
-    if body.len() < 9 {
-        return None;
-    }
-    let count = body[8] as usize;
-    if 16 < count {
-        return None;
-    }
-    if body.len() != 9 + 10 * count {
-        return None;
-    }
+    let count = rows(body, 9, 10)?;
     let stamp = fields::get_be(body, 0, 8);
-    if objects_good(body, count) {
-        return Some(Record::Commit(CommitHead { stamp, count }));
+    if !objects_good(body, count) {
+        return None;
     }
-    None
+    Some(Record::Commit(CommitHead { stamp, count }))
 }
 
 fn read_gossip(body: &[u8]) -> Option<Record>
     ensures { result ≡ head_decoded (checked (length body.now + 1) (gossip_in body.now)) }
 {
-    if body.len() < 17 {
-        return None;
-    }
-    let count = body[16] as usize;
-    if 16 < count {
-        return None;
-    }
-    if body.len() != 17 + 8 * count {
-        return None;
-    }
+    let count = rows(body, 17, 8)?;
     let prev = fields::get_be(body, 0, 8);
     let curr = fields::get_be(body, 8, 8);
-    if stamps_good(body, count, prev, curr) {
-        return Some(Record::Gossip(GossipHead { prev, curr, count }));
+    if !stamps_good(body, count, prev, curr) {
+        return None;
     }
-    None
+    Some(Record::Gossip(GossipHead { prev, curr, count }))
 }
 
 fn read_flush(body: &[u8]) -> Option<Record>
     ensures { result ≡ head_decoded (checked (length body.now + 1) (flush_in body.now)) }
 {
-    if body.len() != 1 {
+    let [page] = body else {
         return None;
-    }
-    let page = body[0] as u64;
+    };
+    let page = u64::from(*page);
     if 32 <= page {
         return None;
     }
     Some(Record::Flush(FlushHead { page }))
 }
 
+#[tactic(auto, unfolding(model::specs::Records::decode))]
 fn read_record(kind: u8, body: &[u8]) -> Option<Record>
     ensures { result ≡ head_decoded (decode (length body.now + 1) kind body.now) }
 {
-    match kind {
-        1 => read_commit(body),
-        2 => read_gossip(body),
-        3 => read_flush(body),
-        _ => None,
+    match Kind::try_from(kind) {
+        Ok(Kind::Commit) => read_commit(body),
+        Ok(Kind::Gossip) => read_gossip(body),
+        Ok(Kind::Flush) => read_flush(body),
+        Err(_) => None,
     }
 }
 
@@ -148,10 +145,7 @@ pub fn step_at(s: &[u8], p: Place) -> Step
         return Step::Short;
     }
     let length = fields::get_be(s, at, 2) as usize;
-    if length < 2 {
-        return Step::Malformed(at);
-    }
-    if 170 < length {
+    if length < 2 || 170 < length {
         return Step::Malformed(at);
     }
     if left - 2 < length {

@@ -5,10 +5,11 @@ use mathlib.Core.Bool.{Bool, true, false}
 use mathlib.Core.List.{List}
 use lib.ListN.{length}
 use lib.Dec.{ltb}
-use borrow.Author.Tests.{ltb-true, eqb-true, le-leb, eq-eqb, ne_eqb}
+use borrow.Author.Tests.{lt-ltb, le-ltb, ltb-true, eqb-true, le-leb, eq-eqb, ne_eqb}
 use Rattle.model.specs.declared.Answer.{Answer}
 use Rattle.model.specs.declared.Answer.TheVariants.{Done, Damaged, Shape, Ahead, NoSnapshot}
 use Rattle.model.specs.Limits.{last_tick}
+use Rattle.model.specs.Answers.{is_done}
 use Rattle.model.specs.Lists.{pick}
 use Rattle.model.specs.Store.{Store, page16, object_at, current, page_as_of, page_now}
 use Rattle.model.specs.Damage.{damaged}
@@ -32,39 +33,34 @@ module _ (st : Store) (good : Bool) (time p : ℕ) (buffer : List ℕ) where
   unfolding read_at snapshot_answer
   read_bad d g = rw (d, g) (record { answered = refl; filled = refl })
 
--- the snapshot that is shown, or 0 where the read is refused, and why it is
-abbrev pub shown_by : ℕ → List ℕ → ℕ → ℕ → List ℕ → ℕ
-shown_by horizon snapshots time p buffer = pick (read_shaped p buffer) (pick (ltb horizon time) 0 (largest time snapshots)) 0
+-- the answer of tables that aren't damaged
+module _ (st : Store) (good : Bool) (time : ℕ) (d : damaged st ≡ false) where
+  pub misshaped : good ≡ false → snapshot_answer st good time ≡ Shape
+  unfolding snapshot_answer
+  misshaped g = rw (d, g) refl
 
-abbrev pub refused : ℕ → ℕ → ℕ → List ℕ → Answer
-refused horizon time p buffer = pick (read_shaped p buffer) (pick (ltb horizon time) (Ahead horizon) NoSnapshot) Shape
+  module _ (g : good ≡ true) where
+    pub ahead : st.horizon < time → snapshot_answer st good time ≡ Ahead st.horizon
+    unfolding snapshot_answer
+    ahead h = rw (d, g, lt-ltb st.horizon time h) refl
 
-module _ (st : Store) (time p : ℕ) (buffer : List ℕ) {s : ℕ} (e : s ≡ shown_by st.horizon st.snapshots time p buffer) where
-  pub shown_shaped : (s ≡ 0 → ⊥) → (p < 32) × (length buffer ≡ 16)
-  shown_shaped z = by_test (read_shaped p buffer) (λ t. shaped_is p buffer t) (λ t. absurd (z (rw t at e)))
+    module _ (h : time ≤ st.horizon) where
+      pub unknown : largest time st.snapshots ≡ 0 → snapshot_answer st good time ≡ NoSnapshot
+      unfolding snapshot_answer
+      unknown z = rw (d, g, le-ltb st.horizon time h, z) refl
 
-  module _ (d : damaged st ≡ false) where
-    pub read_refused : s ≡ 0 → {a : Answer} → a ≡ refused st.horizon time p buffer → Read (read_at st true time p buffer) a buffer
-    unfolding read_at snapshot_answer
-    read_refused z f =
-        by_test (read_shaped p buffer)
-        (λ t. by_test (ltb st.horizon time)
-        (λ u. rw (d, t, u) (record { answered = rw (t, u) at f; filled = refl }))
-        (λ u.
-        let g : s ≡ largest time st.snapshots = rw (t, u) at e in
-        rw (d, t, u, ← g, eq-eqb s 0 z) (record { answered = rw (t, u) at f; filled = refl })))
-        (λ t. rw (d, t) (record { answered = rw t at f; filled = refl }))
+      pub found : (largest time st.snapshots ≡ 0 → ⊥) → snapshot_answer st good time ≡ Done (largest time st.snapshots)
+      unfolding snapshot_answer
+      found z = rw (d, g, le-ltb st.horizon time h, ne_eqb (largest time st.snapshots) 0 z) refl
 
-    pub read_done : (s ≡ 0 → ⊥) → {left : List ℕ} → left ≡ page_as_of st p s → Read (read_at st true time p buffer) (Done s) left
-    unfolding read_at snapshot_answer
-    read_done z f =
-        by_test (read_shaped p buffer)
-        (λ t. by_test (ltb st.horizon time)
-        (λ u. absurd (z (rw (t, u) at e)))
-        (λ u.
-        let g : s ≡ largest time st.snapshots = rw (t, u) at e in
-        rw (d, t, u, ← g, ne_eqb s 0 z) (record { answered = refl; filled = f })))
-        (λ t. absurd (z (rw t at e)))
+module _ (st : Store) (time p : ℕ) (buffer : List ℕ) where
+  pub read_refused : {a : Answer} → snapshot_answer st (read_shaped p buffer) time ≡ a → is_done a ≡ false → Read (read_at st true time p buffer) a buffer
+  unfolding read_at
+  read_refused e f = rw (e, f) (record { answered = refl; filled = refl })
+
+  pub read_done : {s : ℕ} → snapshot_answer st (read_shaped p buffer) time ≡ Done s → {left : List ℕ} → left ≡ page_as_of st p s → Read (read_at st true time p buffer) (Done s) left
+  unfolding read_at
+  read_done e f = rw e (record { answered = refl; filled = f })
 
 -- ---- at a clock tick
 pub clock_in : (st : Store) (tick p : ℕ) (buffer : List ℕ) → tick ≤ last_tick

@@ -1,3 +1,4 @@
+pub mod Before
 pub mod Undamaged
 pub mod Served
 pub mod Answers

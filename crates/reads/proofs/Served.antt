@@ -6,9 +6,9 @@ use mathlib.Core.List.{List}
 use native.Mathlib.Omega.{arith}
 use lib.ListN.{length, take, drop, length-take, length-drop}
 use Rattle.model.specs.Store.{Store, Copy, by, unserved, oldest, page16, object_at, page_of, slot_of, look, as_of, page_as_of}
-use Rattle.tables.specs.declared.Heads.{Heads}
-use Rattle.tables.specs.Rows.{copy_heads, copies_of, up_to}
-use Rattle.tables.specs.Contents.{contents}
+use Rattle.tables.specs.declared.Store as held
+use Rattle.tables.specs.Rows.{copy_heads, copies_of}
+use Rattle.tables.specs.Contents.{stored}
 use Rattle.tables.specs.Lookups.{Serving, served_at}
 use Rattle.tables.proofs.Copies.{no_copy, copy_of, copies_of_length, copy_values}
 use Rattle.tables.proofs.Counts.{up_to_take}
@@ -34,24 +34,22 @@ module _ (st : Store) (p s : ℕ) where
       page_at_lem (λ k. (look st (object_at p k) s).value) k h ∙ rw (q, e))
 
 -- ---- of the tables' contents, by the index of the copy that serves
-module _ (values stamps : List ℕ) (pending past : List (List ℕ)) (snapshots : List ℕ) (copies : List (List ℕ)) (copied : List ℕ) (h : Heads) (page s : ℕ)
-    (m : h.copies ≤ 128) (l : length (copy_heads copies) ≡ 128) where
-  found_is : (f : Option ℕ) → Serving page s h.copies (copy_heads copies) f
-      → oldest page s (up_to no_copy h.copies (copies_of (copy_heads copies) copied)) ≡ served_at f (copies_of (copy_heads copies) copied)
+module _ (st : held.Store) (page s : ℕ) (m : st.heads.copies ≤ 128) (l : length (copy_heads st.copies) ≡ 128) where
+  found_is : (f : Option ℕ) → Serving page s st.heads.copies (copy_heads st.copies) f
+      → oldest page s (stored st).copies ≡ served_at f (copies_of (copy_heads st.copies) st.copied)
   found_is f v =
-      let w : h.copies ≤ length (copies_of (copy_heads copies) copied) = rw (copies_of_length (copy_heads copies) copied) (omega arith) in
-      ap (oldest page s) (up_to_take no_copy h.copies (copies_of (copy_heads copies) copied) w) ∙ sym (v.copy copied)
+      let w : st.heads.copies ≤ length (copies_of (copy_heads st.copies) st.copied) = rw (copies_of_length (copy_heads st.copies) st.copied) (omega arith) in
+      ap (oldest page s) (up_to_take no_copy st.heads.copies (copies_of (copy_heads st.copies) st.copied) w) ∙ sym (v.copy st.copied)
 
-  pub shown_served : length copied ≡ 2048 → (i : ℕ) → Serving page s h.copies (copy_heads copies) (Some i)
-      → take 16 (drop (16 * i) copied) ≡ page_as_of (contents values stamps pending past snapshots copies copied h) page s
+  pub shown_served : length st.copied ≡ 2048 → (i : ℕ) → Serving page s st.heads.copies (copy_heads st.copies) (Some i)
+      → take 16 (drop (16 * i) st.copied) ≡ page_as_of (stored st) page s
   shown_served w i v =
-      let b : i < h.copies = v.inside in
+      let b : i < st.heads.copies = v.inside in
       let z : 16 * i ≡ i * 16 = omega arith in
-      let e : take 16 (drop (16 * i) copied) ≡ (copy_of (copy_heads copies) copied i).values = rw z (sym (copy_values (copy_heads copies) copied i (omega arith))) in
-      let n : length (take 16 (drop (16 * i) copied)) ≡ 16 = simp (length-take, length-drop) (omega arith) in
-      e ∙ page_served (contents values stamps pending past snapshots copies copied h) page s (copy_of (copy_heads copies) copied i) (found_is (Some i) v) (sym (ap length e) ∙ n)
+      let e : take 16 (drop (16 * i) st.copied) ≡ (copy_of (copy_heads st.copies) st.copied i).values = rw z (sym (copy_values (copy_heads st.copies) st.copied i (omega arith))) in
+      let n : length (take 16 (drop (16 * i) st.copied)) ≡ 16 = simp (length-take, length-drop) (omega arith) in
+      e ∙ page_served (stored st) page s (copy_of (copy_heads st.copies) st.copied i) (found_is (Some i) v) (sym (ap length e) ∙ n)
 
-  pub shown_looked : Serving page s h.copies (copy_heads copies) None
-      → page16 (λ k. (look (contents values stamps pending past snapshots copies copied h) (object_at page k) s).value)
-      ≡ page_as_of (contents values stamps pending past snapshots copies copied h) page s
-  shown_looked v = page_looked (contents values stamps pending past snapshots copies copied h) page s (found_is None v)
+  pub shown_looked : Serving page s st.heads.copies (copy_heads st.copies) None
+      → page16 (λ k. (look (stored st) (object_at page k) s).value) ≡ page_as_of (stored st) page s
+  shown_looked v = page_looked (stored st) page s (found_is None v)

@@ -4,18 +4,10 @@ use Rattle.model.specs.declared.Answer.TheVariants.{Done, Damaged}
 use Rattle.model.specs.declared.Figures.{Figures}
 use Rattle.model.specs.Limits.{most_snapshots}
 use Rattle.model.specs.Reads as model
-use Rattle.reads.specs.declared.Knowledge.{Knowledge}
 use Rattle.reads.specs.declared.KnowledgeAnew.{KnowledgeAnew}
 
 abbrev pub padded : List ℕ → List ℕ
 padded stamps = stamps ++ replicate (most_snapshots - length stamps) 0
-
-pub record Knows (x : model.Knowledge) (r : Knowledge) : Type 0 where
-  pub answered : r.answer ≡ x.answer
-  pub horizon_is : r.horizon ≡ x.horizon
-  pub last_is : r.last ≡ x.last
-  pub counted : r.count ≡ length x.snapshots
-  pub listed : r.stamps ≡ padded x.snapshots
 
 -- the figures are told beside Done; Damaged tells zeros
 abbrev pub StandsAnew : model.Stood → Option Figures → Type 0

@@ -1,38 +1,26 @@
 // The reads of the store, standing and known. None requires anything: each refuses what it can't answer.
 #![tactic(auto)]
 
-ghost use Rattle.std.specs.Prelude.{◌≡◌, true, List, ℕ, ◌≤◌, length, take, ltb, pos, ◌-ℤ◌};
-ghost use Rattle.model.specs.declared.Answer.TheVariants.{Shape, Ahead, NoSnapshot};
-ghost use Rattle.model.specs.Lists.{pick, rising_from};
+mod lent;
+
+ghost use Rattle.std.specs.Prelude.{◌≡◌, true, false, ◌≤◌, length, take, pos, ◌-ℤ◌, IfOk};
+ghost use Rattle.model.specs.Lists.{rising_from};
 ghost use Rattle.model.specs.Store.{page_as_of};
+ghost use Rattle.model.specs.Damage.{damaged};
 ghost use Rattle.model.specs.Reads as model;
 ghost use Rattle.model.specs.Reads.{tick_of};
-ghost use Rattle.tables.specs.Rows.{pendings, copy_heads};
+ghost use Rattle.tables.specs.Rows.{pendings};
 ghost use Rattle.tables.specs.Lookups.{Indexed};
-ghost use Rattle.tables.specs.Contents.{contents, stored, Laid};
-ghost use Rattle.views.specs.Views.{Lookable};
-ghost use Rattle.reads.specs.Read.{Read};
-ghost use Rattle.reads.specs.Knows.{padded, Knows, KnowsAnew, StandsAnew};
+ghost use Rattle.tables.specs.Contents.{stored};
+ghost use Rattle.views.specs.Views.{LookableAnew};
+ghost use Rattle.reads.specs.Read.{Read, ShownBy};
+ghost use Rattle.reads.specs.Knows.{padded, KnowsAnew, StandsAnew};
 
 use model::{Answer, Figures};
-use tables::{Copied, CopyTable, Disk, Heads, PastTable, PendingTable, Snapshots, Store};
+use tables::{Index, Store};
+use views::{ViewAnew, Word};
 
-// Standing's answer, and its five figures.
-#[derive(Clone, Copy)]
-pub struct Stood {
-    pub answer: Answer,
-    pub figures: Figures,
-}
-
-// Known's answer, the horizon, the last commit, and the known snapshots: how many, and each, with zeros behind them.
-#[derive(Clone, Copy)]
-pub struct Knowledge {
-    pub answer: Answer,
-    pub horizon: u64,
-    pub last: u64,
-    pub count: u64,
-    pub stamps: [u64; 64],
-}
+pub use lent::{Knowledge, Stood, clock_read, current_read, known, snapshot_read, standing};
 
 // The horizon, the last commit, and every known snapshot.
 #[derive(Clone, Copy)]
@@ -42,185 +30,109 @@ pub struct KnowledgeAnew<'a> {
     pub snapshots: &'a [u64],
 }
 
-// The page as of s: the serving copy's words, else what the tables show. As in views::look_at, any list may stand for the stamps.
-fn show_page(
-    disk: &Disk,
-    pending: &PendingTable,
-    past: &PastTable,
-    copies: &CopyTable,
-    copied: &Copied,
-    h: Heads,
-    index: &[u8],
-    page: u64,
-    s: u64,
-    buffer: &mut [u64],
-)
-    requires lookable { Lookable disk.now disk.now pending.now past.now h page }
-    requires indexed { Indexed index.now (take h.pending (pendings pending.now)) }
-    requires copies_bound { (h.copies ≤ 128) × (length (copy_heads copies.now) ≡ 128) × (length copied.now ≡ 2048) × (length buffer.old ≡ 16) }
-    ensures { (dated snapshots : List ℕ) → buffer.new ≡ page_as_of (contents disk.now dated pending.now past.now snapshots copies.now copied.now h) page s }
-{
-    match tables::lookups::serving(copies, h.copies, page, s) {
-        Some(i) => views::sixteen(copied, 16 * i, buffer),
-        None => views::look_at(disk, pending, past, h, index, page, false, s, buffer),
-    }
-}
-
 fn read_shaped(page: u64, buffer: &[u64]) -> bool
     ensures { result ≡ model.read_shaped page buffer.now }
 {
-    if page < 32 { buffer.len() == 16 } else { false }
+    page < 32 && buffer.len() == 16
 }
 
-// The snapshot that a read of the time shows, or 0 where the read is refused.
-fn shown_by(snapshots: &Snapshots, h: Heads, time: u64, page: u64, buffer: &[u64]) -> u64
-    requires { (h.snapshots ≤ 64) × (length snapshots.now ≡ 64) × (rising_from 0 (take h.snapshots snapshots.now) ≡ true) }
-    ensures { result ≡ pick (model.read_shaped page buffer.now) (pick (ltb h.horizon time) 0 (model.largest time (take h.snapshots snapshots.now))) 0 }
+// The snapshot that a read of the time shows, or why it is refused.
+fn shown_by(store: &Store, time: u64, page: u64, buffer: &[u64]) -> Result<u64, Answer>
+    requires { (store.now.heads.snapshots ≤ 64) × (rising_from 0 (take store.now.heads.snapshots store.now.snapshots) ≡ true) }
+    ensures told { damaged (stored store.now) ≡ false → ShownBy (model.snapshot_answer (stored store.now) (model.read_shaped page buffer.now) time) result }
+    ensures shaped { IfOk result (λ s. model.read_shaped page buffer.now ≡ true) }
 {
+    let h = store.heads;
     if !read_shaped(page, buffer) {
-        return 0;
+        return Err(Answer::Shape);
     }
     if h.horizon < time {
-        return 0;
+        return Err(Answer::Ahead(h.horizon));
     }
-    tables::lookups::largest_known(snapshots, h.snapshots, time)
-}
-
-// Why it is refused.
-fn refusal(h: Heads, time: u64, page: u64, buffer: &[u64]) -> Answer
-    ensures { result ≡ pick (model.read_shaped page buffer.now) (pick (ltb h.horizon time) (Ahead h.horizon) NoSnapshot) Shape }
-{
-    if !read_shaped(page, buffer) {
-        return Answer::Shape;
-    }
-    if h.horizon < time {
-        return Answer::Ahead(h.horizon);
-    }
-    Answer::NoSnapshot
-}
-
-fn read_at(
-    disk: &Disk,
-    pending: &PendingTable,
-    past: &PastTable,
-    snapshots: &Snapshots,
-    copies: &CopyTable,
-    copied: &Copied,
-    h: Heads,
-    time: u64,
-    page: u64,
-    buffer: &mut [u64],
-) -> Answer
-    requires { Laid disk.now disk.now pending.now past.now snapshots.now copies.now copied.now }
-    ensures { (dated : List ℕ) → Read (model.read_at (contents disk.now dated pending.now past.now snapshots.now copies.now copied.now h) true time page buffer.old) result buffer.new }
-{
-    if damage::out_of_range(pending, past, snapshots, copies, h) {
-        return Answer::Damaged;
-    }
-    let s = shown_by(snapshots, h, time, page, buffer);
-    // One entry alone is no second one.
-    if s == 0 && h.pending < 2 {
-        return refusal(h, time, page, buffer);
-    }
-    let mut index = [128u8; 512];
-    if damage::met_again(pending, h.pending, &mut index) {
-        return Answer::Damaged;
-    }
+    let s = tables::lookups::largest_known(&store.snapshots, h.snapshots, time);
     if s == 0 {
-        return refusal(h, time, page, buffer);
+        return Err(Answer::NoSnapshot);
     }
-    show_page(
-        disk, pending, past, copies, copied, h, &index, page, s, buffer,
-    );
-    Answer::Done(s)
+    Ok(s)
+}
+
+// The page as of s: the serving copy's words, else what the tables show.
+fn show_page(store: &Store, index: &Index, page: u64, s: u64, buffer: &mut [u64])
+    requires lookable { LookableAnew store.now.written store.now.heads page }
+    requires indexed { Indexed index.now (take store.now.heads.pending (pendings store.now.written.pending)) }
+    requires copies_bound { (store.now.heads.copies ≤ 128) × (length buffer.old ≡ 16) }
+    ensures { buffer.new ≡ page_as_of (stored store.now) page s }
+{
+    match tables::lookups::serving(&store.copies, store.heads.copies, page, s) {
+        Some(i) => views::sixteen(&store.copied, 16 * i, buffer),
+        None => {
+            let view = ViewAnew {
+                page,
+                as_of: Some(s),
+                word: Word::Value,
+            };
+            views::look_at_anew(&store.written, store.heads, index, view, buffer);
+        }
+    }
 }
 
 // The page as of the largest known snapshot at or before a time.
-pub fn snapshot_read(
-    disk: &Disk,
-    dated: &Disk,
-    pending: &PendingTable,
-    past: &PastTable,
-    snapshots: &Snapshots,
-    copies: &CopyTable,
-    copied: &Copied,
-    h: Heads,
-    time: u64,
-    page: u64,
-    buffer: &mut [u64],
-) -> Answer
-    ensures { Read (model.snapshot_read (contents disk.now dated.now pending.now past.now snapshots.now copies.now copied.now h) time page buffer.old) result buffer.new }
+pub fn snapshot_read_anew(store: &Store, time: u64, page: u64, buffer: &mut [u64]) -> Answer
+    ensures { Read (model.snapshot_read (stored store.now) time page buffer.old) result buffer.new }
 {
-    tables::laid(*disk, *dated, *pending, *past, *snapshots, *copies, *copied);
-    read_at(
-        disk, pending, past, snapshots, copies, copied, h, time, page, buffer,
-    )
+    if damage::out_of_range_anew(store) {
+        return Answer::Damaged;
+    }
+    let shown = shown_by(store, time, page, buffer);
+    // One entry alone is no second one.
+    if store.heads.pending < 2 {
+        if let Err(refused) = shown {
+            return refused;
+        }
+    }
+    let mut index = [128u8; 512];
+    if damage::met_again(&store.written.pending, store.heads.pending, &mut index) {
+        return Answer::Damaged;
+    }
+    match shown {
+        Ok(s) => {
+            show_page(store, &index, page, s, buffer);
+            Answer::Done(s)
+        }
+        Err(refused) => refused,
+    }
 }
 
-// The same at a clock tick.
-pub fn clock_read(
-    disk: &Disk,
-    dated: &Disk,
-    pending: &PendingTable,
-    past: &PastTable,
-    snapshots: &Snapshots,
-    copies: &CopyTable,
-    copied: &Copied,
-    h: Heads,
-    tick: u64,
-    page: u64,
-    buffer: &mut [u64],
-) -> Answer
-    ensures { Read (model.clock_read (contents disk.now dated.now pending.now past.now snapshots.now copies.now copied.now h) tick page buffer.old) result buffer.new }
+// The same at a clock tick, of 256 stamps.
+pub fn clock_read_anew(store: &Store, tick: u64, page: u64, buffer: &mut [u64]) -> Answer
+    ensures { Read (model.clock_read (stored store.now) tick page buffer.old) result buffer.new }
 {
-    tables::laid(*disk, *dated, *pending, *past, *snapshots, *copies, *copied);
-    if tick <= 72057594037927935 {
-        return read_at(
-            disk,
-            pending,
-            past,
-            snapshots,
-            copies,
-            copied,
-            h,
-            256 * tick,
-            page,
-            buffer,
-        );
+    if let Some(time) = tick.checked_mul(256) {
+        return snapshot_read_anew(store, time, page, buffer);
     }
-    if damage::damaged(pending, past, snapshots, copies, h) {
+    if damage::damaged_anew(store) {
         return Answer::Damaged;
     }
     Answer::Shape
 }
 
 // The page as it is now.
-pub fn current_read(
-    disk: &Disk,
-    dated: &Disk,
-    pending: &PendingTable,
-    past: &PastTable,
-    snapshots: &Snapshots,
-    copies: &CopyTable,
-    copied: &Copied,
-    h: Heads,
-    page: u64,
-    buffer: &mut [u64],
-) -> Answer
-    ensures { Read (model.current_read (contents disk.now dated.now pending.now past.now snapshots.now copies.now copied.now h) page buffer.old) result buffer.new }
+pub fn current_read_anew(store: &Store, page: u64, buffer: &mut [u64]) -> Answer
+    ensures { Read (model.current_read (stored store.now) page buffer.old) result buffer.new }
 {
-    tables::laid(*disk, *dated, *pending, *past, *snapshots, *copies, *copied);
-    if damage::out_of_range(pending, past, snapshots, copies, h) {
-        return Answer::Damaged;
-    }
     let mut index = [128u8; 512];
-    if damage::met_again(pending, h.pending, &mut index) {
+    if damage::damaged_or_indexed_anew(store, &mut index) {
         return Answer::Damaged;
     }
     if !read_shaped(page, buffer) {
         return Answer::Shape;
     }
-    views::look_at(disk, pending, past, h, &index, page, true, 0, buffer);
+    let view = ViewAnew {
+        page,
+        as_of: None,
+        word: Word::Value,
+    };
+    views::look_at_anew(&store.written, store.heads, &index, view, buffer);
     Answer::Done(0)
 }
 
@@ -231,150 +143,6 @@ fn lag(last: u64, horizon: u64) -> i64
     let l = (last / 256) as i64;
     let h = (horizon / 256) as i64;
     l - h
-}
-
-// The numbers of rows in the tables, and the lag.
-pub fn standing(
-    disk: &Disk,
-    dated: &Disk,
-    pending: &PendingTable,
-    past: &PastTable,
-    snapshots: &Snapshots,
-    copies: &CopyTable,
-    copied: &Copied,
-    h: Heads,
-) -> Stood
-    ensures { (result.answer ≡ (model.standing (contents disk.now dated.now pending.now past.now snapshots.now copies.now copied.now h)).answer) × (result.figures ≡ (model.standing (contents disk.now dated.now pending.now past.now snapshots.now copies.now copied.now h)).figures) }
-{
-    tables::laid(*disk, *dated, *pending, *past, *snapshots, *copies, *copied);
-    if damage::damaged(pending, past, snapshots, copies, h) {
-        let none = Figures {
-            pending: 0,
-            past: 0,
-            snapshots: 0,
-            copies: 0,
-            lag: 0,
-        };
-        return Stood {
-            answer: Answer::Damaged,
-            figures: none,
-        };
-    }
-    let behind = lag(h.last, h.horizon);
-    let figures = Figures {
-        pending: h.pending as u64,
-        past: h.past as u64,
-        snapshots: h.snapshots as u64,
-        copies: h.copies as u64,
-        lag: behind,
-    };
-    Stood {
-        answer: Answer::Done(0),
-        figures,
-    }
-}
-
-// The first n snapshots, and zeros behind them.
-fn first_known(snapshots: &Snapshots, n: usize) -> [u64; 64]
-    requires { (n ≤ 64) × (length snapshots.now ≡ 64) }
-    ensures { result ≡ padded (take n snapshots.now) }
-{
-    let mut stamps = [0u64; 64];
-    let mut i: usize = 0;
-    while i < n {
-        stamps[i] = snapshots[i];
-        i += 1;
-    }
-    stamps
-}
-
-// The horizon, the last commit, and every known snapshot.
-pub fn known(
-    disk: &Disk,
-    dated: &Disk,
-    pending: &PendingTable,
-    past: &PastTable,
-    snapshots: &Snapshots,
-    copies: &CopyTable,
-    copied: &Copied,
-    h: Heads,
-) -> Knowledge
-    ensures { Knows (model.known (contents disk.now dated.now pending.now past.now snapshots.now copies.now copied.now h)) result }
-{
-    tables::laid(*disk, *dated, *pending, *past, *snapshots, *copies, *copied);
-    if damage::damaged(pending, past, snapshots, copies, h) {
-        return Knowledge {
-            answer: Answer::Damaged,
-            horizon: 0,
-            last: 0,
-            count: 0,
-            stamps: [0u64; 64],
-        };
-    }
-    let stamps = first_known(snapshots, h.snapshots);
-    Knowledge {
-        answer: Answer::Done(0),
-        horizon: h.horizon,
-        last: h.last,
-        count: h.snapshots as u64,
-        stamps,
-    }
-}
-
-// The page as of the largest known snapshot at or before a time.
-pub fn snapshot_read_anew(store: &Store, time: u64, page: u64, buffer: &mut [u64]) -> Answer
-    ensures { Read (model.snapshot_read (stored store.now) time page buffer.old) result buffer.new }
-{
-    snapshot_read(
-        &store.written.disk,
-        &store.written.dated,
-        &store.written.pending,
-        &store.written.past,
-        &store.snapshots,
-        &store.copies,
-        &store.copied,
-        store.heads,
-        time,
-        page,
-        buffer,
-    )
-}
-
-// The same at a clock tick.
-pub fn clock_read_anew(store: &Store, tick: u64, page: u64, buffer: &mut [u64]) -> Answer
-    ensures { Read (model.clock_read (stored store.now) tick page buffer.old) result buffer.new }
-{
-    clock_read(
-        &store.written.disk,
-        &store.written.dated,
-        &store.written.pending,
-        &store.written.past,
-        &store.snapshots,
-        &store.copies,
-        &store.copied,
-        store.heads,
-        tick,
-        page,
-        buffer,
-    )
-}
-
-// The page as it is now.
-pub fn current_read_anew(store: &Store, page: u64, buffer: &mut [u64]) -> Answer
-    ensures { Read (model.current_read (stored store.now) page buffer.old) result buffer.new }
-{
-    current_read(
-        &store.written.disk,
-        &store.written.dated,
-        &store.written.pending,
-        &store.written.past,
-        &store.snapshots,
-        &store.copies,
-        &store.copied,
-        store.heads,
-        page,
-        buffer,
-    )
 }
 
 // The numbers of rows in the tables, and the lag; none of a damaged store.
@@ -402,11 +170,10 @@ pub fn known_anew(store: &Store) -> Option<KnowledgeAnew<'_>>
         return None;
     }
     let h = store.heads;
-    let snapshots = &store.snapshots[..];
     Some(KnowledgeAnew {
         horizon: h.horizon,
         last: h.last,
-        snapshots: &snapshots[..h.snapshots],
+        snapshots: &store.snapshots[..h.snapshots],
     })
 }
 

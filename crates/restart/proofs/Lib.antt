@@ -1,8 +1,8 @@
+pub mod Before
 pub mod Zeros
 pub mod Entered
 pub mod Fronts
 pub mod Standing
 pub mod Turning
 pub mod Holding
-pub mod Following
 pub mod Walking

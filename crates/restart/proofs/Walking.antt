@@ -10,7 +10,8 @@ use Rattle.model.specs.declared.Answer.{Answer}
 use Rattle.model.specs.declared.Answer.TheVariants.{Done, Shape, Version, Malformed, Contradiction}
 use Rattle.model.specs.declared.Verdict.{Verdict}
 use Rattle.model.specs.declared.Verdict.TheVariants.{Accepted, Idle, Refused}
-use Rattle.model.specs.Store.{Store, fresh}
+use Rattle.model.specs.Store as model
+use Rattle.model.specs.Store.{fresh}
 use Rattle.model.specs.Changes.{after}
 use Rattle.model.specs.Judgement.{judge}
 use Rattle.model.specs.Records.{Step, end, short, malformed, whole, step_at}
@@ -21,8 +22,8 @@ use Rattle.journal.specs.declared.walk.Record.{Record}
 use Rattle.journal.specs.declared.walk.Step.TheVariants as told
 use Rattle.journal.proofs.Walks.{at_end}
 use Rattle.history.proofs.Laws.{never, clash}
-use Rattle.tables.specs.declared.Heads.{Heads}
-use Rattle.tables.specs.Contents.{contents}
+use Rattle.tables.specs.declared.Store.{Store}
+use Rattle.tables.specs.Contents.{stored}
 use Rattle.restart.specs.Promises.{Rebuilt}
 use Rattle.restart.specs.Turns.{change_at, accepted_b, Turned, Held, Carried}
 use Rattle.restart.proofs.Standing.{told_whole, Lies, lies}
@@ -54,7 +55,7 @@ not_admitted Idle at more h = refl
 not_admitted (Refused a) at more h = refl
 
 -- ---- what is left of the walk
-module _ (j : List ℕ) (at : ℕ) (st : Store) where
+module _ (j : List ℕ) (at : ℕ) (st : model.Store) where
   pub walk_end : (n : ℕ) → head_step (step_at j at) ≡ told.End → walk n j at st ≡ resumed st at
   unfolding walk
   walk_end zero e = refl
@@ -82,11 +83,11 @@ module _ (j : List ℕ) (at : ℕ) (st : Store) where
     walk_whole n =
         ap (λ (s : Step). stepped s at st (λ c next. walk n j next (after st c))) (told_whole (step_at j at) e).0
 
-    pub walk_contradicts : (n : ℕ) {st' : Store} → length j ≤ at + n → Turned st (change_at j at) false st' → walk n j at st ≡ refused (Contradiction at)
+    pub walk_contradicts : (n : ℕ) {st' : model.Store} → length j ≤ at + n → Turned st (change_at j at) false st' → walk n j at st ≡ refused (Contradiction at)
     walk_contradicts zero h t = let z = at_end j at (omega arith) in never (cc)
     walk_contradicts (suc n) h t = walk_whole n ∙ not_admitted (judge st (change_at j at)) at _ t.says
 
-    pub walk_next : (n : ℕ) {st' : Store} → length j ≤ at + n → Turned st (change_at j at) true st'
+    pub walk_next : (n : ℕ) {st' : model.Store} → length j ≤ at + n → Turned st (change_at j at) true st'
         → (m : ℕ) × (length j ≤ p.at + m) × (walk n j at st ≡ walk m j p.at st')
     walk_next zero h t = let z = at_end j at (omega arith) in never (cc)
     walk_next (suc n) {st'} h t =
@@ -97,55 +98,43 @@ module _ (j : List ℕ) (at : ℕ) (st : Store) where
           walk_whole n ∙ ap (λ (x : Verdict). admitted x at (walk n j p.at (after st (change_at j at)))) v ∙ ap (walk n j p.at) (sym t.contains),
         )
 
--- ---- the loop: the tables hold a whole store, and the rest of the walk from it is the whole walk
-pub record Walking (j values stamps : List ℕ) (pending past : List (List ℕ)) (snapshots : List ℕ) (copies : List (List ℕ)) (copied : List ℕ) (h : Heads) (at : ℕ) : Type 0 where
+-- ---- the loop: the struct holds a whole store, and the rest of the walk from it is the whole walk
+pub record Walking (j : List ℕ) (s : Store) (at : ℕ) : Type 0 where
   pub fuel : ℕ
   pub enough : length j ≤ at + fuel
-  pub held : Held values stamps pending past snapshots copies copied h
-  pub rest : walk fuel j at (contents values stamps pending past snapshots copies copied h) ≡ walk (length j) j 1 fresh
+  pub held : Held s
+  pub rest : walk fuel j at (stored s) ≡ walk (length j) j 1 fresh
 
-pub rebuilt_as : {x y : Restarted} {a : Answer} {st : Store} {place : ℕ} → x ≡ y → Rebuilt y a st place → Rebuilt x a st place
+pub rebuilt_as : {x y : Restarted} {a : Answer} {st : model.Store} {place : ℕ} → x ≡ y → Rebuilt y a st place → Rebuilt x a st place
 rebuilt_as {x} {y} {a} {st} {place} e r = subst (λ (z : Restarted). Rebuilt z a st place) (sym e) r
 
-module _ {j values stamps : List ℕ} {pending past : List (List ℕ)} {snapshots : List ℕ} {copies : List (List ℕ)} {copied : List ℕ} {h : Heads} {at : ℕ}
-    (w : Walking j values stamps pending past snapshots copies copied h at) where
-  abbrev held_now : Store
-  held_now = contents values stamps pending past snapshots copies copied h
+module _ {j : List ℕ} {s : Store} {at : ℕ} (w : Walking j s at) where
+  walked_to : walk w.fuel j at (stored s) ≡ resumed (stored s) at → Rebuilt (walk (length j) j 1 fresh) (Done at) (stored s) at
+  walked_to e = rebuilt_as (sym w.rest ∙ e) (record { answered = refl; contains = refl; place_is = refl })
 
-  resumes : walk w.fuel j at held_now ≡ resumed held_now at → {h' : Heads} {a : Answer} {place : ℕ} → (h' ≡ h) × (a ≡ Done at) × (place ≡ at)
-      → Rebuilt (walk (length j) j 1 fresh) a (contents values stamps pending past snapshots copies copied h') place
-  resumes e d =
-      rebuilt_as (sym w.rest ∙ e)
-      (record { answered = d.1; contains = ap (λ (x : Heads). contents values stamps pending past snapshots copies copied x) d.0; place_is = d.2 })
+  pub walked_end : head_step (step_at j at) ≡ told.End → Rebuilt (walk (length j) j 1 fresh) (Done at) (stored s) at
+  walked_end e = walked_to (walk_end j at (stored s) w.fuel e)
 
-  pub walked_end : head_step (step_at j at) ≡ told.End → {h' : Heads} {a : Answer} {place : ℕ} → (h' ≡ h) × (a ≡ Done at) × (place ≡ at)
-      → Rebuilt (walk (length j) j 1 fresh) a (contents values stamps pending past snapshots copies copied h') place
-  walked_end e d = resumes (walk_end j at held_now w.fuel e) d
+  pub walked_short : head_step (step_at j at) ≡ told.Short → Rebuilt (walk (length j) j 1 fresh) (Done at) (stored s) at
+  walked_short e = walked_to (walk_short j at (stored s) w.fuel e)
 
-  pub walked_short : head_step (step_at j at) ≡ told.Short → {h' : Heads} {a : Answer} {place : ℕ} → (h' ≡ h) × (a ≡ Done at) × (place ≡ at)
-      → Rebuilt (walk (length j) j 1 fresh) a (contents values stamps pending past snapshots copies copied h') place
-  walked_short e d = resumes (walk_short j at held_now w.fuel e) d
+  pub walked_malformed : {o : ℕ} → head_step (step_at j at) ≡ told.Malformed o → walk (length j) j 1 fresh ≡ refused (Malformed o)
+  walked_malformed {o} e = sym w.rest ∙ walk_malformed j at (stored s) w.fuel o w.enough e
 
-  pub walked_malformed : {o : ℕ} {a : Answer} {st : Store} {place : ℕ} → head_step (step_at j at) ≡ told.Malformed o → Rebuilt (refused (Malformed o)) a st place
-      → Rebuilt (walk (length j) j 1 fresh) a st place
-  walked_malformed {o} e r = rebuilt_as (sym w.rest ∙ walk_malformed j at held_now w.fuel o w.enough e) r
+  module _ {r : Record} {p : Place} (e : head_step (step_at j at) ≡ told.Whole r p) {b : Bool} {s' : Store} (t : Carried (stored s) (change_at j at) b s') where
+    pub walked_contradicts : b ≡ false → walk (length j) j 1 fresh ≡ refused (Contradiction at)
+    walked_contradicts f =
+        let u = subst (λ (x : Bool). Turned (stored s) (change_at j at) x (stored s')) f t.turned in
+        sym w.rest ∙ walk_contradicts j at (stored s) e w.fuel w.enough u
 
-  module _ {r : Record} {p : Place} (e : head_step (step_at j at) ≡ told.Whole r p) {b : Bool} {values' stamps' : List ℕ} {pending' past' : List (List ℕ)} {snapshots' : List ℕ} {copies' : List (List ℕ)} {copied' : List ℕ} {h' : Heads}
-      (t : Carried held_now (change_at j at) b values' stamps' pending' past' snapshots' copies' copied' h') where
-    pub walked_contradicts : b ≡ false → {a : Answer} {st : Store} {place : ℕ} → Rebuilt (refused (Contradiction at)) a st place
-        → Rebuilt (walk (length j) j 1 fresh) a st place
-    walked_contradicts f r =
-        let u = subst (λ (x : Bool). Turned held_now (change_at j at) x (contents values' stamps' pending' past' snapshots' copies' copied' h')) f t.turned in
-        rebuilt_as (sym w.rest ∙ walk_contradicts j at held_now e w.fuel w.enough u) r
-
-    pub walked_on : b ≡ true → Walking j values' stamps' pending' past' snapshots' copies' copied' h' p.at
+    pub walked_on : b ≡ true → Walking j s' p.at
     walked_on f =
-        let u = subst (λ (x : Bool). Carried held_now (change_at j at) x values' stamps' pending' past' snapshots' copies' copied' h') f t in
-        let n = walk_next j at held_now e w.fuel w.enough u.turned in
+        let u = subst (λ (x : Bool). Carried (stored s) (change_at j at) x s') f t in
+        let n = walk_next j at (stored s) e w.fuel w.enough u.turned in
         record {
           fuel = n.0;
           enough = n.1;
-          held = next_held w.held.whole (lies_there j at held_now e).formed u;
+          held = next_held w.held.whole (lies_there j at (stored s) e).formed u;
           rest = sym n.2 ∙ w.rest;
         }
 

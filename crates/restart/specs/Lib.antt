@@ -1,2 +1,3 @@
+pub mod lent
 pub mod Promises
 pub mod Turns

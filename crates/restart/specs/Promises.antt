@@ -1,14 +1,20 @@
 -- What fresh and restart promise: the answer, the store's contents and the place are the model's.
-use Rattle.std.specs.Prelude.{ℕ, ◌≡◌}
+use Rattle.std.specs.Prelude.{ℕ, ◌≡◌, Result, MatchResult}
 use Rattle.model.specs.declared.Answer.{Answer}
 use Rattle.model.specs.Store.{Store}
-use Rattle.model.specs.Restart.{Restarted}
+use Rattle.model.specs.declared.Answer.TheVariants.{Done}
+use Rattle.model.specs.Restart.{Restarted, refused}
+use Rattle.journal.specs.declared.place.Place.{Place}
 use Rattle.tables.specs.declared.Store as lent
 
 pub record Rebuilt (x : Restarted) (answer : Answer) (store : Store) (place : ℕ) : Type 0 where
   pub answered : answer ≡ x.answer
   pub contains : store ≡ x.store
   pub place_is : place ≡ x.place
+
+-- the same of a journal that is read to a place, or refused, before the store is cleared for that
+abbrev pub Resumes : Restarted → Result Place Answer → Store → Type 0
+Resumes x r store = MatchResult r (λ p. Rebuilt x (Done p.at) store p.at) (λ a. x ≡ refused a)
 
 -- the tables that a fresh start leaves word for word
 pub record FreshKept (s s' : lent.Store) : Type 0 where

@@ -3,63 +3,36 @@ ghost use Rattle.std.specs.Prelude.{◌≡◌, true, ◌≤◌, length};
 ghost use Rattle.model.specs.Lists.{rising_from};
 ghost use Rattle.model.specs.Changes as changes;
 ghost use Rattle.journal.specs.declared.walk.Record.TheVariants as records;
-ghost use Rattle.restart.specs.Turns.{GossipReady, GossipTurned, Stands, change_at};
+ghost use Rattle.tables.specs.Contents.{stored};
+ghost use Rattle.restart.specs.Turns.{Held, Carried, EntriesKept, Stands, change_at};
 
-use crate::replay::{Replayed, accepts};
+use crate::replay::accepts;
 use journal::walk::GossipHead;
-use tables::{CopyTable, Heads, PastTable, Snapshots};
+use tables::Store;
 
-fn carry(
-    past: &mut PastTable,
-    snapshots: &mut Snapshots,
-    copies: &CopyTable,
-    h: Heads,
-    prev: u64,
-    curr: u64,
-    stamps: &[u64],
-) -> Replayed
-    requires gossip_ready { GossipReady past.old snapshots.old copies.now h }
+fn carry(store: &mut Store, prev: u64, curr: u64, stamps: &[u64]) -> bool
+    requires held { Held store.old }
     requires stamps_len_bound { (length stamps.now ≤ 16) × (rising_from prev stamps.now ≡ true) }
-    ensures { GossipTurned past.old past.new snapshots.old snapshots.new copies.now h result.heads (changes.gossip prev curr stamps.now) result.accepted }
+    ensures carried { Carried (stored store.old) (changes.gossip prev curr stamps.now) result store.new }
+    ensures kept { EntriesKept store.old store.new }
 {
-    let verdict = gossips::judge_gossip(snapshots, h, prev, curr, stamps);
+    let verdict = gossips::judge_gossip_anew(store, prev, curr, stamps);
     if !accepts(verdict) {
-        return Replayed {
-            accepted: false,
-            heads: h,
-        };
+        return false;
     }
-    let heads = gossips::apply_gossip(past, snapshots, copies, h, curr, stamps);
-    Replayed {
-        accepted: true,
-        heads,
-    }
+    gossips::apply_gossip_anew(store, curr, stamps);
+    true
 }
 
 // The record at a place.
-pub fn replay(
-    past: &mut PastTable,
-    snapshots: &mut Snapshots,
-    copies: &CopyTable,
-    h: Heads,
-    journal: &[u8],
-    at: usize,
-    head: GossipHead,
-) -> Replayed
-    requires gossip_ready { GossipReady past.old snapshots.old copies.now h }
+pub fn replay(store: &mut Store, journal: &[u8], at: usize, head: GossipHead) -> bool
+    requires held { Held store.old }
     requires stands { Stands journal.now at (records.Gossip head) }
-    ensures { GossipTurned past.old past.new snapshots.old snapshots.new copies.now h result.heads (change_at journal.now at) result.accepted }
+    ensures carried { Carried (stored store.old) (change_at journal.now at) result store.new }
+    ensures kept { EntriesKept store.old store.new }
 {
     let count = head.count;
     let mut stamps = [0u64; 16];
     fields::get_column(journal, at + 20, 8, 8, &mut stamps[..count]);
-    carry(
-        past,
-        snapshots,
-        copies,
-        h,
-        head.prev,
-        head.curr,
-        &stamps[..count],
-    )
+    carry(store, head.prev, head.curr, &stamps[..count])
 }

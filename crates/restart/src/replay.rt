@@ -1,81 +1,54 @@
 // A whole record of the journal, carried out if the store accepts it.
-ghost use Rattle.std.specs.Prelude.{◌≡◌, length, take};
+ghost use Rattle.std.specs.Prelude.{◌≡◌, take};
 ghost use Rattle.tables.specs.Rows.{pendings};
-ghost use Rattle.tables.specs.Contents.{contents};
-ghost use Rattle.restart.specs.Turns.{accepted_b, indexed_after, Follows, Held, Carried, Stands, change_at};
+ghost use Rattle.tables.specs.Contents.{stored};
+ghost use Rattle.restart.specs.Turns.{accepted_b, Follows, Held, Carried, Stands, change_at};
 
 use journal::walk::Record;
 use model::Verdict;
-use tables::{Copied, CopyTable, Disk, Heads, Index, PastTable, PendingTable, Snapshots};
+use tables::{Index, Store};
 
-// Whether the store accepted the record, and the heads after it.
-#[derive(Clone, Copy)]
-pub struct Replayed {
-    pub accepted: bool,
-    pub heads: Heads,
+// What a walk keeps from record to record: the index of the entries, whether it tells their rows, and the room for a commit's writes.
+// Kept: an Option of the index has to copy its 512 bytes whenever it is made anew.
+#[derive(Drop)]
+pub struct Room {
+    pub indexed: bool,
+    pub index: Index,
+    pub objects: [u64; 16],
+    pub values: [u64; 16],
 }
 
 // Nothing to do is no yes: a record that would change nothing can't stand in a journal.
 pub fn accepts(verdict: Verdict) -> bool
     ensures { result ≡ accepted_b verdict }
 {
-    match verdict {
-        Verdict::Accepted => true,
-        Verdict::Idle => false,
-        Verdict::Refused(_) => false,
-    }
+    matches!(verdict, Verdict::Accepted)
 }
 
-// Whether the index still tells the entries' rows after a record: a commit keeps it up, a message leaves the entries alone, and a
-// flush takes entries out from between others.
-pub fn indexed_after(told: Record, indexed: bool) -> bool
-    ensures { result ≡ indexed_after told indexed }
-{
-    match told {
-        Record::Commit(_) => true,
-        Record::Gossip(_) => indexed,
-        Record::Flush(_) => false,
-    }
-}
-
-// The record at a place, told by its head. The index is made anew where a commit needs it and it doesn't tell the rows.
-pub fn replay(
-    disk: &mut Disk,
-    dated: &mut Disk,
-    pending: &mut PendingTable,
-    past: &mut PastTable,
-    snapshots: &mut Snapshots,
-    copies: &mut CopyTable,
-    copied: &mut Copied,
-    h: Heads,
-    indexed: bool,
-    index: &mut Index,
-    journal: &[u8],
-    at: usize,
-    told: Record,
-    objects: &mut [u64],
-    values: &mut [u64],
-) -> Replayed
-    requires held { Held disk.old dated.old pending.old past.old snapshots.old copies.old copied.old h }
-    requires follows { Follows indexed index.old (take h.pending (pendings pending.old)) }
+// Kept: the three kinds carry out by the same steps, but what a judge finds goes to its writer, and a commit's index stays from record to
+// record: one function for all would be handed two closures by each kind, with more lines than the three have.
+// The record at a place, told by its head; whether the store accepted it. The index is made anew where a commit needs it and it doesn't
+// tell the rows. A commit keeps it up, a message leaves the entries alone, and a flush takes entries out from between others.
+pub fn replay(store: &mut Store, room: &mut Room, journal: &[u8], at: usize, told: Record) -> bool
+    requires held { Held store.old }
+    requires follows { Follows room.old.indexed room.old.index (take store.old.heads.pending (pendings store.old.written.pending)) }
     requires stands { Stands journal.now at told }
-    requires objects_len { (length objects.old ≡ 16) × (length values.old ≡ 16) }
-    ensures carried { Carried (contents disk.old dated.old pending.old past.old snapshots.old copies.old copied.old h) (change_at journal.now at) result.accepted disk.new dated.new pending.new past.new snapshots.new copies.new copied.new result.heads }
-    ensures follows_2 { Follows (indexed_after told indexed) index.new (take result.heads.pending (pendings pending.new)) }
-    ensures objects_len_2 { (length objects.new ≡ 16) × (length values.new ≡ 16) }
+    ensures carried { Carried (stored store.old) (change_at journal.now at) result store.new }
+    ensures follows_2 { Follows room.new.indexed room.new.index (take store.new.heads.pending (pendings store.new.written.pending)) }
 {
     match told {
         Record::Commit(head) => {
-            crate::indexing::renew(pending, h.pending, indexed, index);
-            crate::commit::replay(
-                pending, past, snapshots, copies, h, index, journal, at, head, objects, values,
-            )
+            if !room.indexed {
+                let n = store.heads.pending;
+                crate::indexing::index_entries(&store.written.pending, n, &mut room.index);
+                room.indexed = true;
+            }
+            crate::commit::replay(store, room, journal, at, head)
         }
-        Record::Gossip(head) => {
-            crate::gossip::replay(past, snapshots, copies, h, journal, at, head)
+        Record::Gossip(head) => crate::gossip::replay(store, journal, at, head),
+        Record::Flush(head) => {
+            room.indexed = false;
+            crate::flush::carry(store, head.page)
         }
-        Record::Flush(head) => crate::flush::carry(
-            disk, dated, pending, past, snapshots, copies, copied, h, head.page,
-        ),
     }
 }

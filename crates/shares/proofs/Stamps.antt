@@ -10,20 +10,27 @@ use lib.Dec.{eqb, ltb, leb}
 use borrow.Rule.Slice.PartMut.{put_mid, take_put, same_len_mid}
 use borrow.Author.Tests.{ltb-true, ltb-false, lt-leb, le-leb, le-ltb, lt-ltb, eqb-true, eqb-false}
 use Rattle.model.specs.declared.Past.{Past}
-use Rattle.model.specs.Lists.{both, pick, kept}
+use Rattle.model.specs.Lists.{pick}
 use Rattle.model.specs.Store.{page16, object_at, slot_of, in_span, pending_seen, past_seen}
 use Rattle.model.specs.Changes.{of_page}
 use Rattle.tables.specs.declared.Heads.{Heads}
 use Rattle.tables.specs.Rows.{pending_of, past_of, pendings, pasts}
 use Rattle.tables.proofs.Backward.{Turn, back_start, back_cons, back_end}
 use Rattle.tables.proofs.Cases.{by_test}
+use Rattle.std.proofs.Common.{Some}
+use Rattle.tables.specs.declared.Written.{Written}
 use Rattle.views.specs.declared.View.{View}
-use Rattle.views.specs.Views.{part_of, lay, Lookable}
+use Rattle.views.specs.declared.ViewAnew.{ViewAnew}
+use Rattle.views.specs.declared.Word.{Word}
+use Rattle.views.specs.Rows.{covers_by, shows_by}
+use Rattle.views.specs.Views.{part_of, part_of_anew, lay, Lookable, LookableAnew}
+use Rattle.views.proofs.Sights.{Sized, on_disk, below_past, sight_page}
 use Rattle.views.proofs.Looks.{below, beneath_past, look_page}
 use Rattle.shares.specs.declared.Share.{Share}
-use Rattle.shares.specs.Shares.{row_of_page, rows_at, Shared}
-use Rattle.shares.specs.Many.{Ordered, Pages, page_at}
-use Rattle.shares.proofs.Laying.{both_not}
+use Rattle.shares.specs.declared.ShareAnew.{ShareAnew}
+use Rattle.shares.specs.Shares.{row_of_page, rows_at, Shared, SharedAnew}
+use Rattle.shares.specs.Many.{Ordered, Pages, page_at, page_at_anew}
+use Rattle.shares.proofs.Laying.{both_not, lay_both, lay_listed}
 
 -- ---- stamps in order
 pub all_before : (l : List ℕ) (s k : ℕ) → Ordered l → k < length l → get_or l k 0 < s → (i : ℕ) → i < k + 1 → get_or l i 0 < s
@@ -140,13 +147,6 @@ module _ {A : Type 0} (f : A → Bool) (slot word : A → ℕ) (d : A) (l : List
   pub numbers_end : (j : ℕ) → j ≤ 0 → (out : List ℕ) → laid_from j out ≡ lay f slot word (rows_at d l (take k ns)) out
   numbers_end j h out = rw (back_end j (take k ns) h)
 
--- rows that pass two tests
-lay_both : {A : Type 0} (g f : A → Bool) (slot word : A → ℕ) (l : List A) (out : List ℕ) → lay f slot word (kept g l) out ≡ lay (λ x. both (g x) (f x)) slot word l out
-lay_both g f slot word [] out = refl
-lay_both g f slot word (x ∷ xs) out =
-    let ih = lay_both g f slot word xs out in
-    by_test (g x) (λ e. rw (e, ih)) (λ e. rw e ih)
-
 -- ---- the page as of a stamp: its rows over its words on disk, and its entries over them
 pub page_laid : (disk dated : List ℕ) (pending past : List (List ℕ)) (h : Heads) (page : ℕ) (ages : Bool) → Lookable disk dated pending past h page
     → (share : Share) (rs es : List ℕ) → Shared pending past h page share rs es → (s : ℕ)
@@ -163,3 +163,18 @@ page_laid disk dated pending past h page ages a share rs es b s =
     rw (b.past_rows.rows, b.entries.rows)
     (lay_both (of_page page) (λ e. leb e.latest s) (λ e. slot_of e.object) (λ e. part_of ages (pending_seen e)) ps _
     ∙ look_page disk dated pending past h v a under [] [] [])
+
+-- ---- the page as of a stamp: its rows over its words on disk, and its entries over them
+pub page_listed : (w : Written) (h : Heads) (page : ℕ) (word : Word) → Sized w → LookableAnew w h page
+    → (share : ShareAnew) → SharedAnew w h page share → (s : ℕ)
+    → lay (shows_by (Some s)) (λ e. slot_of e.object) (λ e. part_of_anew word (pending_seen e)) (rows_at (pending_of []) (pendings w.pending) share.entries)
+    (lay (covers_by (Some s)) (λ q. slot_of q.object) (λ q. part_of_anew word (past_seen q)) (rows_at (past_of []) (pasts w.past) share.rows)
+    (page16 (λ k. part_of_anew word (record { value = get_or w.disk (object_at page k) 0; stamp = get_or w.dated (object_at page k) 0 }))))
+    ≡ page_at_anew w h page word s
+page_listed w h page word z a share b s =
+    let v : ViewAnew = record { page = page; as_of = Some s; word = word } in
+    let out = page16 (λ k. part_of_anew word (on_disk w h v k)) in
+    let under = lay_listed (covers_by (Some s)) (λ q. slot_of q.object) (λ q. part_of_anew word (past_seen q)) (past_of []) (pasts w.past) share.rows (row_of_page page) h.past b.past_rows out
+    ∙ below_past w h v refl in
+    lay_listed (shows_by (Some s)) (λ e. slot_of e.object) (λ e. part_of_anew word (pending_seen e)) (pending_of []) (pendings w.pending) share.entries (of_page page) h.pending b.entries _
+    ∙ sight_page w h v z a under [] [] []

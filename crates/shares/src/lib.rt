@@ -5,14 +5,16 @@ pub mod look;
 pub mod many;
 pub mod quiet;
 
-ghost use Rattle.std.specs.Prelude.{◌≡◌, List, [], ℕ, ◌<◌, ◌≤◌, length, take, get_or};
+ghost use Rattle.std.specs.Prelude.{◌≡◌, List, [], ◌∷◌, ◌++◌, ℕ, ◌<◌, ◌≤◌, length, take, get_or, eqb};
 ghost use Rattle.model.specs.Changes.{of_page};
 ghost use Rattle.tables.specs.Rows.{pending_of, past_of, pendings, pasts, pending_at, past_at};
-ghost use Rattle.shares.specs.Shares.{row_of_page, Numbered, Shared, SharedAnew};
+ghost use Rattle.shares.specs.Shares.{row_of_page, Numbered, Shared, NumberedAnew, SharedAnew};
+ghost use Rattle.model.specs.Store.{page_of};
 
 use model::{Past, Pending};
 use std::marker::Model;
 use tables::{Heads, PastTable, PendingTable, Written};
+use views::rows::Row;
 
 // How many past rows and entries are of a page; their numbers stand beside it.
 #[derive(Clone, Copy)]
@@ -53,6 +55,20 @@ impl<const N: usize> RowNumbers<N> {
         ensures { result.now ≡ self.now }
     {
         &self.at[..self.count]
+    }
+
+    fn clear(&mut self)
+        ensures { self.new ≡ [] }
+    {
+        self.count = 0;
+    }
+
+    fn push(&mut self, number: u8)
+        requires { length self.old < N }
+        ensures { self.new ≡ self.old ++ (number ∷ []) }
+    {
+        self.at[self.count] = number;
+        self.count += 1;
     }
 }
 
@@ -139,14 +155,25 @@ pub fn find_share(
     Share { rows, entries }
 }
 
+// The numbers of those of the first n rows that are of the page.
+fn number<R: Row, const N: usize>(t: &R::Table, n: usize, page: u64, numbers: &mut RowNumbers<N>)
+    requires { (n ≤ R.room) × (n ≤ N) × (n ≤ 256) × (n ≤ length (R.rows t.now)) }
+    ensures { NumberedAnew R.blank (λ r. eqb (page_of (R.object_of r)) page) (R.rows t.now) n numbers.new }
+{
+    numbers.clear();
+    for i in 0..n {
+        if R::at(t, i).object() / 16 == page {
+            numbers.push(i as u8);
+        }
+    }
+}
+
 pub fn find_share_anew(w: &Written, h: Heads, page: u64, share: &mut ShareAnew)
     requires { (h.pending ≤ 128) × (h.past ≤ 256) }
     ensures { SharedAnew w.now h page share.new }
 {
-    let rows = &mut share.rows;
-    rows.count = number_rows(&w.past, h.past, page, &mut rows.at);
-    let entries = &mut share.entries;
-    entries.count = number_entries(&w.pending, h.pending, page, &mut entries.at);
+    number::<Past, 256>(&w.past, h.past, page, &mut share.rows);
+    number::<Pending, 128>(&w.pending, h.pending, page, &mut share.entries);
 }
 
 fn wide(x: u8) -> usize

@@ -1,16 +1,17 @@
 // A page looked at through its share of the tables: as views::look_at, over the page's rows alone.
-ghost use Rattle.std.specs.Prelude.{◌≡◌, List, [], ℕ, ◌≤◌, length, take};
+ghost use Rattle.std.specs.Prelude.{◌≡◌, List, [], ℕ, ◌≤◌, ◌<◌, length, take, get_or};
 ghost use Rattle.model.specs.Changes.{of_page};
 ghost use Rattle.model.specs.Store.{page16, object_at, slot_of, pending_seen, past_seen};
 ghost use Rattle.tables.specs.Rows.{pending_of, past_of, pendings, pasts};
 ghost use Rattle.tables.specs.Contents.{contents};
-ghost use Rattle.views.specs.Views.{part_of, viewed, covers_b, shows_b, lay, Lookable, viewed_anew, LookableAnew};
-ghost use Rattle.shares.specs.Shares.{row_of_page, Numbered, Shared, SharedAnew};
+ghost use Rattle.views.specs.Views.{part_of, viewed, covers_b, shows_b, lay, Lookable, viewed_anew, part_of_anew, LookableAnew};
+ghost use Rattle.shares.specs.Shares.{row_of_page, rows_at, Numbered, Shared, SharedAnew};
 
 use crate::{Share, ShareAnew};
 use model::{Past, Pending};
 use tables::{Disk, Heads, PastTable, PendingTable, Written};
-use views::{View, ViewAnew};
+use views::rows::Row;
+use views::{View, ViewAnew, rows};
 
 // The stamps are tested first: the page is the row's already.
 fn covers(q: Past, v: View) -> bool
@@ -101,29 +102,27 @@ pub fn look_at(
     lay_entries(pending, h.pending, entry_numbers, share.entries, v, out);
 }
 
-// The page as the view asks, where no copy serves.
-pub fn look_at_anew(w: &Written, h: Heads, share: &ShareAnew, view: ViewAnew, out: &mut [u64])
-    requires lookable { LookableAnew w.now h view.page }
-    requires shared { SharedAnew w.now h view.page share.now × (length out.old ≡ 16) }
-    ensures { (snapshots : List ℕ) (copies : List (List ℕ)) (copied : List ℕ) → out.new ≡ page16 (λ k. viewed_anew (contents w.now.disk w.now.dated w.now.pending w.now.past snapshots copies copied h) view (object_at view.page k)) }
+// The numbered rows laid, from the last to the first.
+fn lay_numbered<R: Row>(t: &R::Table, numbers: &[u8], v: ViewAnew, out: &mut [u64])
+    requires { (length out.old ≡ 16) × ((j : ℕ) → j < length numbers.now → get_or numbers.now j 0 < R.room) }
+    ensures { out.new ≡ lay (R.shown_b v.as_of) (λ r. slot_of (R.object_of r)) (λ r. part_of_anew v.word (R.seen_of r)) (rows_at R.blank (R.rows t.now) numbers.now) out.old }
 {
-    let rows = &share.rows;
-    let entries = &share.entries;
-    let numbers = Share {
-        rows: rows.count,
-        entries: entries.count,
-    };
-    let v = views::asked(view);
-    look_at(
-        &w.disk,
-        &w.dated,
-        &w.pending,
-        &w.past,
-        h,
-        numbers,
-        &rows.at,
-        &entries.at,
-        v,
-        out,
-    );
+    for j in (0..numbers.len()).rev() {
+        let r = R::at(t, usize::from(numbers[j]));
+        let slot = (r.object() % 16) as usize;
+        rows::lay_row(r, slot, v, out);
+    }
+}
+
+// The page as the view asks, where no copy serves.
+pub fn look_at_anew(w: &Written, h: Heads, share: &ShareAnew, v: ViewAnew, out: &mut [u64])
+    requires lookable { LookableAnew w.now h v.page }
+    requires shared { SharedAnew w.now h v.page share.now × (length out.old ≡ 16) }
+    ensures { (snapshots : List ℕ) (copies : List (List ℕ)) (copied : List ℕ) → out.new ≡ page16 (λ k. viewed_anew (contents w.now.disk w.now.dated w.now.pending w.now.past snapshots copies copied h) v (object_at v.page k)) }
+{
+    views::lay_disk_anew(w, v.page, v.word, out);
+    if v.as_of.is_some() {
+        lay_numbered::<Past>(&w.past, share.rows.listed(), v, out);
+    }
+    lay_numbered::<Pending>(&w.pending, share.entries.listed(), v, out);
 }

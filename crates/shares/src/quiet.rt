@@ -4,20 +4,23 @@ ghost use Rattle.model.specs.Lists.{kept};
 ghost use Rattle.model.specs.Changes.{of_page};
 ghost use Rattle.model.specs.Store.{object_at};
 ghost use Rattle.tables.specs.Rows.{pending_of, past_of, pendings, pasts};
-ghost use Rattle.shares.specs.Shares.{row_of_page, Numbered, Shared, SharedAnew};
+ghost use Rattle.shares.specs.Shares.{row_of_page, rows_at, Numbered, Shared, SharedAnew};
 ghost use Rattle.shares.specs.Lulls.{newer_of, newest_of, Still, StillAnew};
 
 use crate::{Share, ShareAnew};
+use model::{Past, Pending};
 use tables::{Disk, Heads, PastTable, PendingTable, Written};
+use views::rows::Row;
 
 // The larger of a stamp and the newest so far, where it isn't beyond the bound.
 fn newer(newest: u64, stamp: u64, bound: u64) -> u64
     ensures { result ≡ newer_of bound newest stamp }
 {
     if bound < stamp {
-        return newest;
+        newest
+    } else {
+        newest.max(stamp)
     }
-    if newest < stamp { stamp } else { newest }
 }
 
 // The newest of a stamp and of those up to the bound that wrote the page's past rows.
@@ -68,18 +71,13 @@ fn newest_entry(
 
 // The newest of the stamps that wrote the page's values on disk: as of every stamp they are what shows where nothing else does.
 fn newest_on_disk(dated: &Disk, page: u64) -> u64
-    requires { (length dated.now ≡ 512) × (page < 32) }
+    requires { page < 32 }
     ensures { (k : ℕ) → k < 16 → get_or dated.now (object_at page k) 0 ≤ result }
 {
     let at = 16 * (page as usize);
     let mut newest: u64 = 0;
-    let mut k: usize = 0;
-    while k < 16 {
-        let stamp = dated[at + k];
-        k += 1;
-        if newest < stamp {
-            newest = stamp;
-        }
+    for stamp in &dated[at..at + 16] {
+        newest = newest.max(*stamp);
     }
     newest
 }
@@ -114,6 +112,19 @@ pub fn newest_up_to(
     )
 }
 
+// The newest of a stamp and of those up to the bound that wrote the numbered rows.
+fn newest<R: Row>(t: &R::Table, numbers: &[u8], bound: u64, least: u64) -> u64
+    requires { (j : ℕ) → j < length numbers.now → get_or numbers.now j 0 < R.room }
+    ensures { result ≡ newest_of (λ r. (R.seen_of r).stamp) bound least (rows_at R.blank (R.rows t.now) numbers.now) }
+{
+    let mut newest = least;
+    for number in numbers {
+        let r = R::at(t, usize::from(*number));
+        newest = newer(newest, r.seen().stamp, bound);
+    }
+    newest
+}
+
 // The newest of the page's stamps on disk, and of those up to the bound that wrote its past rows and its entries.
 pub fn newest_up_to_anew(w: &Written, h: Heads, page: u64, share: &ShareAnew, bound: u64) -> u64
     requires shared { SharedAnew w.now h page share.now }
@@ -121,21 +132,7 @@ pub fn newest_up_to_anew(w: &Written, h: Heads, page: u64, share: &ShareAnew, bo
     ensures still { StillAnew w.now h page (record { from = result; until = bound + 1 }) }
     ensures by_index { (k : ℕ) → k < 16 → get_or w.now.dated (object_at page k) 0 ≤ result }
 {
-    let rows = &share.rows;
-    let entries = &share.entries;
-    let numbers = Share {
-        rows: rows.count,
-        entries: entries.count,
-    };
-    newest_up_to(
-        &w.dated,
-        &w.pending,
-        &w.past,
-        h,
-        page,
-        numbers,
-        &rows.at,
-        &entries.at,
-        bound,
-    )
+    let a = newest_on_disk(&w.dated, page);
+    let b = newest::<Past>(&w.past, share.rows.listed(), bound, a);
+    newest::<Pending>(&w.pending, share.entries.listed(), bound, b)
 }

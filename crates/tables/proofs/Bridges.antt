@@ -85,11 +85,11 @@ kept_same f g e [] = refl
 kept_same f g e (x ∷ xs) = rw (e x, kept_same f g e xs)
 
 module _ (h : ℕ) (known marks : List ℕ) (cs : List Copy) (m : (p : ℕ) → get_or marks p 0 ≡ mark cs p) where
-  pub stays_every : (q : Past) → stays_by 32 h known marks q ≡ live_b h known cs q
+  pub stays_every : (q : Past) → stays_by None h known marks q ≡ live_b h known cs q
   stays_every q = rw (m (page_of q.object))
 
-  pub kept_every : (qs : List Past) → kept (stays_by 32 h known marks) qs ≡ kept (live_b h known cs) qs
-  kept_every qs = kept_same (stays_by 32 h known marks) (live_b h known cs) stays_every qs
+  pub kept_every : (qs : List Past) → kept (stays_by None h known marks) qs ≡ kept (live_b h known cs) qs
+  kept_every qs = kept_same (stays_by None h known marks) (live_b h known cs) stays_every qs
 
 -- ---- copies whose pages are in range, as heads
 pub pages_in : (n : ℕ) (hs : List CopyHead) (words : List ℕ) → any_b (λ (c : Copy). leb pages c.page) (take n (copies_of hs words)) ≡ false

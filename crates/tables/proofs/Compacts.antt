@@ -1,5 +1,4 @@
 -- One turn of the compaction, on lists, and what it comes to; and one turn of a copy of rows.
---     starts    nothing is looked at yet
 --     step      row i is looked at: it is put at place k, and k goes on where it is chosen
 --     copied    a row more is as in the list that is copied
 use Prim.Native.Nat.{ℕ, zero, suc, ◌+◌, ◌<◌, ◌≤◌}
@@ -18,9 +17,6 @@ use Rattle.tables.specs.Compaction.{after, chosen, Compacted}
 -- the row that stands for no row
 abbrev pub no_past : Past
 no_past = past_of []
-
-pub starts : (bs : List Bool) (xs : List Past) → Compacted bs 0 xs xs 0
-starts bs xs = (omega arith, refl, refl, refl)
 
 -- the chosen ones of one row more
 pick_app : (b : Bool) (x : Past) (xs ys : List Past) → pick b (x ∷ (xs ++ ys)) (xs ++ ys) ≡ pick b (x ∷ xs) xs ++ ys

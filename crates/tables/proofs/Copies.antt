@@ -1,5 +1,5 @@
 -- The copies that heads and words make: as many as heads, each with its head's page and stamp, and sixteen words of its own.
-use Prim.Native.Nat.{ℕ, zero, suc, ◌+◌, ◌*◌, ◌<◌}
+use Prim.Native.Nat.{ℕ, zero, suc, ◌+◌, ◌*◌, ◌<◌, ◌≤◌}
 use mathlib.Core.Path.{◌≡◌, refl, ap, ◌∙◌}
 use mathlib.Core.List.{List, [], ◌∷◌}
 use native.Mathlib.Omega.{arith}
@@ -7,7 +7,8 @@ use lib.ListN.{length, take, drop, get_or}
 use lib.Seq.{drop-drop}
 use Rattle.model.specs.Store.{Copy}
 use Rattle.tables.specs.declared.CopyHead.{CopyHead}
-use Rattle.tables.specs.Rows.{copies_of, copy_head_at}
+use Rattle.tables.specs.Rows.{copy_heads, copies_of, copy_head_at}
+use Rattle.tables.proofs.Rows.{copies_length}
 use Rattle.tables.proofs.Backward.{Turn}
 
 -- the copy that isn't there
@@ -41,3 +42,7 @@ copy_values (h ∷ hs) words (suc i) l =
 -- a turn over the heads is one over the copies
 pub copies_turn : {hs : List CopyHead} {n i : ℕ} → Turn hs n i → (words : List ℕ) → Turn (copies_of hs words) n i
 copies_turn {hs} t words = record { left = t.left; inside = t.inside; rows = rw (copies_of_length hs words) t.rows }
+
+-- a turn over the heads of a table's rows
+pub rows_turn : (rows : List (List ℕ)) {n i : ℕ} → 0 < i → i ≤ n → n ≤ length rows → Turn (copy_heads rows) n i
+rows_turn rows a b c = record { left = a; inside = b; rows = rw (copies_length rows (length rows) refl) c }

@@ -20,15 +20,6 @@ module _ {A : Type 0} (f : A → Bool) (r : List A) (k i n : ℕ) (d : A) (hk : 
       let hs : k < suc i = omega arith in
       rw (add-one k, add-one i, take-suc-set r k, take-set-lt n r k, drop-set-lt (suc i) (take n r) k, slice-cons i n r d, e, append_assoc)
 
-  pub keep_no : f (get_or r i d) ≡ false → take k r ++ kept f (drop (i + 1) (take n r)) ≡ take k r ++ kept f (drop i (take n r))
-  keep_no e = rw (add-one, slice-cons i n r d, e)
-
-pub keep_end : {A : Type 0} (f : A → Bool) (r : List A) (k i n : ℕ) {K : List A} → n ≤ i → k ≤ length r
-    → take k r ++ kept f (drop i (take n r)) ≡ K → (take k r ≡ K) × (k ≡ length K)
-keep_end f r k i n {K} h l e =
-    let q : take k r ≡ K = sym (append-nil (take k r)) ∙ (rw (drop_end n r i h) at e) in
-    (q, sym (length-take-le k r l) ∙ ap length q)
-
 pub kept_append : {A : Type 0} (f : A → Bool) (l m : List A) → kept f (l ++ m) ≡ kept f l ++ kept f m
 kept_append f [] m = refl
 kept_append f (x ∷ xs) m = let ih = kept_append f xs m in by_test (f x) (λ e. rw (e, ih)) (λ e. rw (e, ih))

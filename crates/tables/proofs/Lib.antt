@@ -15,3 +15,4 @@ pub mod Bridges
 pub mod Indexing
 pub mod Compacts
 pub mod Blocks
+pub mod Fronts

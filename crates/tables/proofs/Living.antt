@@ -2,6 +2,7 @@
 use Prim.Native.Nat.{ℕ}
 use mathlib.Core.Path.{◌≡◌, ◌∙◌, sym, ap}
 use mathlib.Core.Bool.{Bool, true, false, not}
+use Rattle.std.specs.Prelude.{Option}
 use mathlib.Core.List.{List}
 use lib.ListN.{get_or}
 use lib.Dec.{leb}
@@ -11,9 +12,6 @@ use Rattle.tables.specs.Lookups.{last_before, wants_b, in_scope, stays_by}
 use Rattle.tables.proofs.Known.{wanted_last, wants_none, wants_beyond}
 
 module _ (h : ℕ) (known : List ℕ) (q : Past) where
-  pub live_beyond : (cs : List Copy) → beyond_b h q ≡ true → true ≡ live_b h known cs q
-  live_beyond cs e = rw e
-
   -- s is the last known snapshot before the row's end
   module _ (cs : List Copy) (s : ℕ) (l : s ≡ last_before known q.until) (e : beyond_b h q ≡ false) where
     live_last : wants_b s (mark cs (page_of q.object)) q ≡ live_b h known cs q
@@ -25,13 +23,7 @@ module _ (h : ℕ) (known : List ℕ) (q : Past) where
     pub live_archived : {b : Bool} → wants_b s 0 q ≡ true → b ≡ leb s (mark cs (page_of q.object)) → not b ≡ live_b h known cs q
     live_archived w f = ap not f ∙ sym (wants_beyond s (mark cs (page_of q.object)) q w) ∙ live_last
 
-  module _ (scope : ℕ) (marks : List ℕ) where
-    pub stays_out : in_scope scope q ≡ false → true ≡ stays_by scope h known marks q
-    stays_out e = rw e
-
-    pub stays_beyond : in_scope scope q ≡ true → beyond_b h q ≡ true → true ≡ stays_by scope h known marks q
-    stays_beyond e f = rw (e, f)
-
+  module _ (scope : Option ℕ) (marks : List ℕ) where
     pub stays_last : (s m : ℕ) → s ≡ last_before known q.until → in_scope scope q ≡ true → beyond_b h q ≡ false → m ≡ get_or marks (page_of q.object) 0
         → wants_b s m q ≡ stays_by scope h known marks q
     stays_last s m l e f g = rw (l, ← wanted_last known m q, e, f, g)

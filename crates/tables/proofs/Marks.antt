@@ -1,13 +1,13 @@
 -- Marks: those of the copies from a row on, whatever words they hold, after one copy more; of one page, by a stamp, and by page number.
 use Prim.Native.Nat.{ℕ, zero, suc, ◌+◌, ◌-◌, ◌<◌, ◌≤◌, max}
-use mathlib.Core.Path.{◌≡◌, ◌∙◌, sym, ap, subst}
+use mathlib.Core.Path.{◌≡◌, refl, ◌∙◌, sym, ap, subst}
 use mathlib.Core.Bool.{true}
 use mathlib.Core.List.{List, [], ◌∷◌}
 use native.Mathlib.Omega.{arith}
-use lib.ListN.{length, take, drop, get_or, set, get_or-eq_default}
+use lib.ListN.{length, take, drop, get_or, set, replicate}
 use lib.Seq.{get_or-take, length-take-le, get_or-set_same, get_or-set_other}
 use lib.Dec.{eqb, ltb, leb}
-use borrow.Author.Tests.{eq-eqb, ne_eqb, eqb-true, eqb-false, ltb-true, ltb-false, le-leb}
+use borrow.Author.Tests.{eq-eqb, ne_eqb, eqb-true, eqb-false, ltb-true, le-leb}
 use Rattle.model.specs.Lists.{pick, all_b}
 use Rattle.model.specs.Store.{Copy, mark}
 use Rattle.tables.specs.declared.CopyHead.{CopyHead}
@@ -45,11 +45,8 @@ module _ {hs : List CopyHead} {n i : ℕ} (t : Turn hs n i) {x : CopyHead} (r : 
 
   -- one page's mark
   module _ (p : ℕ) {best : ℕ} (v : (words : List ℕ) → best ≡ mark_from hs n i words p) where
-    pub mark_new : x.page ≡ p → best < x.stamp → (words : List ℕ) → x.stamp ≡ mark_from hs n (i - 1) words p
-    mark_new e b words = let w = v words in rw (mark_turn words p, eq-eqb _ _ e) (omega arith)
-
-    pub mark_old : x.page ≡ p → x.stamp ≤ best → (words : List ℕ) → best ≡ mark_from hs n (i - 1) words p
-    mark_old e b words = let w = v words in rw (mark_turn words p, eq-eqb _ _ e) (omega arith)
+    pub mark_more : x.page ≡ p → (words : List ℕ) → max best x.stamp ≡ mark_from hs n (i - 1) words p
+    mark_more e words = let w = v words in rw (mark_turn words p, eq-eqb _ _ e) (omega arith)
 
     mark_other : (x.page ≡ p → ⊥) → (words : List ℕ) → best ≡ mark_from hs n (i - 1) words p
     mark_other e words = rw (mark_turn words p, ne_eqb _ _ e) (v words)
@@ -106,16 +103,8 @@ module _ (hs : List CopyHead) (i p : ℕ) {j : ℕ} (e : j ≡ trimmed (λ (c : 
       subst (λ (m : ℕ). (words : List ℕ) → best ≡ mark_from hs n m words p) (before k) (mark_other t (ap (copy_head_at hs) (sym (before k))) p w (eqb-false _ _ z)))
       v)
 
--- ---- marks set to 0, one after the other
-module _ (marks : List ℕ) (p : ℕ) (v : (k : ℕ) → k < p → get_or marks k 0 ≡ 0) where
-  pub clear_more : p < length marks → (k : ℕ) → k < p + 1 → get_or (set marks p 0) k 0 ≡ 0
-  clear_more l k h =
-      by_test (eqb k p)
-      (λ e. rw (eqb-true k p e) (get_or-set_same marks p 0 0 l))
-      (λ e. let f = eqb-false k p e in get_or-set_other marks p k 0 0 f ∙ v k (omega arith))
-
-  pub clear_all : length marks ≤ p → (k : ℕ) → get_or marks k 0 ≡ 0
-  clear_all l k =
-      by_test (ltb k p)
-      (λ e. v k (ltb-true _ _ e))
-      (λ e. let f = ltb-false k p e in get_or-eq_default marks 0 (omega arith))
+-- ---- marks that are all 0
+pub zeros : (n k : ℕ) → let z : ℕ = 0 in get_or (replicate n z) k z ≡ z
+zeros zero k = refl
+zeros (suc n) zero = refl
+zeros (suc n) (suc k) = zeros n k

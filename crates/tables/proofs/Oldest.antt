@@ -20,18 +20,17 @@ use Rattle.tables.proofs.Copies.{no_copy, copy_of, copy_page, copy_stamp, copies
 abbrev pub oldest_from : List CopyHead → ℕ → ℕ → ℕ → ℕ → List ℕ → Served
 oldest_from hs n p s i words = oldest p s (drop i (take n (copies_of hs words)))
 
--- what the code holds of the copies from row i on: the stamp and the index of the one that serves, or the largest number and 128
+-- what the code holds of the copies from row i on: the stamp and the index of the one that serves, or the largest number and n
 pub record Best (hs : List CopyHead) (n p s best at i : ℕ) : Type 0 where
-  pub within : at < n
   pub stamped : best ≡ (copy_head_at hs at).stamp
   pub serves : (words : List ℕ) → oldest_from hs n p s i words ≡ by (copy_of hs words at)
 
 pub record Held (hs : List CopyHead) (n p s best at i : ℕ) : Type 0 where
-  pub no : 128 ≤ at → (words : List ℕ) → oldest_from hs n p s i words ≡ unserved
-  pub most : 128 ≤ at → best ≡ 18446744073709551615
-  pub yes : at < 128 → Best hs n p s best at i
+  pub no : n ≤ at → (words : List ℕ) → oldest_from hs n p s i words ≡ unserved
+  pub most : n ≤ at → best ≡ 18446744073709551615
+  pub yes : at < n → Best hs n p s best at i
 
-pub held_start : (hs : List CopyHead) (n p s : ℕ) → Held hs n p s 18446744073709551615 128 n
+pub held_start : (hs : List CopyHead) (n p s : ℕ) → Held hs n p s 18446744073709551615 n n
 held_start hs n p s = record { no = λ e words. rw (back_start n (copies_of hs words)); most = λ e. refl; yes = λ e. absurd (omega arith) }
 
 module _ {hs : List CopyHead} {n i : ℕ} (t : Turn hs n i) {x : CopyHead} (r : x ≡ copy_head_at hs (i - 1)) {p s best at : ℕ} (v : Held hs n p s best at i) where
@@ -45,7 +44,7 @@ module _ {hs : List CopyHead} {n i : ℕ} (t : Turn hs n i) {x : CopyHead} (r : 
   skipped e = record {
     no = λ z words. rw (turned words, e) (v.no z words);
     most = v.most;
-    yes = λ z. let b = v.yes z in record { within = b.within; stamped = b.stamped; serves = λ words. rw (turned words, e) (b.serves words) };
+    yes = λ z. let b = v.yes z in record { stamped = b.stamped; serves = λ words. rw (turned words, e) (b.serves words) };
   }
 
   pub held_other : (x.page ≡ p → ⊥) → Held hs n p s best at (i - 1)
@@ -56,22 +55,21 @@ module _ {hs : List CopyHead} {n i : ℕ} (t : Turn hs n i) {x : CopyHead} (r : 
 
   -- one that serves: it is taken, or the one found stays
   module _ (e : x.page ≡ p) (f : s ≤ x.stamp) where
-    first : (words : List ℕ) → 128 ≤ at → oldest_from hs n p s (i - 1) words ≡ by (copy_of hs words (i - 1))
+    first : (words : List ℕ) → n ≤ at → oldest_from hs n p s (i - 1) words ≡ by (copy_of hs words (i - 1))
     first words z = rw (turned words, eq-eqb _ _ e, le-leb _ _ f, v.no z words)
 
-    choice : (words : List ℕ) → at < 128 → oldest_from hs n p s (i - 1) words ≡ by (pick (leb x.stamp best) (copy_of hs words (i - 1)) (copy_of hs words at))
+    choice : (words : List ℕ) → at < n → oldest_from hs n p s (i - 1) words ≡ by (pick (leb x.stamp best) (copy_of hs words (i - 1)) (copy_of hs words at))
     choice words z =
         let q = (v.yes z).stamped in
         rw (turned words, eq-eqb _ _ e, le-leb _ _ f, (v.yes z).serves words, copy_stamp hs words (i - 1), copy_stamp hs words at, ← r, ← q)
 
-    pub held_taken : n ≤ 128 → x.stamp ≤ best → Held hs n p s x.stamp (i - 1) (i - 1)
-    held_taken m b = record {
+    pub held_taken : x.stamp ≤ best → Held hs n p s x.stamp (i - 1) (i - 1)
+    held_taken b = record {
       no = λ z. absurd (omega arith);
       most = λ z. absurd (omega arith);
       yes = λ _. record {
-        within = omega arith;
         stamped = ap (λ y. y.stamp) r;
-        serves = λ words. by_test (ltb at 128) (λ z. rw (choice words (ltb-true _ _ z), le-leb _ _ b)) (λ z. first words (ltb-false _ _ z));
+        serves = λ words. by_test (ltb at n) (λ z. rw (choice words (ltb-true _ _ z), le-leb _ _ b)) (λ z. first words (ltb-false _ _ z));
       };
     }
 
@@ -81,7 +79,6 @@ module _ {hs : List CopyHead} {n i : ℕ} (t : Turn hs n i) {x : CopyHead} (r : 
       no = λ z. let q = v.most z in absurd (omega arith);
       most = v.most;
       yes = λ z. record {
-        within = (v.yes z).within;
         stamped = (v.yes z).stamped;
         serves = λ words. rw (choice words z, lt-leb _ _ b);
       };
@@ -89,13 +86,13 @@ module _ {hs : List CopyHead} {n i : ℕ} (t : Turn hs n i) {x : CopyHead} (r : 
 
 -- ---- the answer, once all rows are passed
 module _ {hs : List CopyHead} {n p s best at i : ℕ} (v : Held hs n p s best at i) (z : i ≤ 0) where
-  pub serving_found : at < 128 → Serving p s n hs (Some at)
+  pub serving_found : at < n → Serving p s n hs (Some at)
   serving_found e = record {
     copy = λ words. sym ((v.yes e).serves words) ∙ ap (oldest p s) (back_end i (take n (copies_of hs words)) z);
-    inside = (v.yes e).within;
+    inside = e;
   }
 
-  pub serving_none : 128 ≤ at → Serving p s n hs None
+  pub serving_none : n ≤ at → Serving p s n hs None
   serving_none e = record {
     copy = λ words. sym (v.no e words) ∙ ap (oldest p s) (back_end i (take n (copies_of hs words)) z);
     inside = tt;

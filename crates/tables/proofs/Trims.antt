@@ -17,20 +17,6 @@ picked P true x y f g = f refl
 picked P false x y f g = g refl
 
 module _ {A : Type 0} (f : A → Bool) (d : A) (l : List A) where
-  pub trim_yes : (i : ℕ) → 0 < i → f (get_or l (i - 1) d) ≡ true → i ≡ trimmed f d l i
-  trim_yes zero h e = absurd (omega arith)
-  trim_yes (suc i) h e = sym (ap (λ b. pick b (suc i) (trimmed f d l i)) (subst (λ j. f (get_or l j d) ≡ true) (before i) e))
-
-  pub trim_no : (i : ℕ) → 0 < i → f (get_or l (i - 1) d) ≡ false → trimmed f d l (i - 1) ≡ trimmed f d l i
-  trim_no zero h e = absurd (omega arith)
-  trim_no (suc i) h e =
-      ap (trimmed f d l) (before i)
-      ∙ sym (ap (λ b. pick b (suc i) (trimmed f d l i)) (subst (λ j. f (get_or l j d) ≡ false) (before i) e))
-
-  pub trim_end : (i : ℕ) → i ≤ 0 → 0 ≡ trimmed f d l i
-  trim_end zero h = refl
-  trim_end (suc i) h = absurd (omega arith)
-
   -- the last row left passes
   trim_last : (n : ℕ) → 0 < trimmed f d l n → f (get_or l (trimmed f d l n - 1) d) ≡ true
   trim_last zero h = absurd (omega arith)

@@ -2,7 +2,6 @@
 use Rattle.std.specs.Prelude.{ℕ, zero, suc, ◌-◌, ◌<◌, ◌≡◌, Bool, true, false, not, List, [], ◌∷◌, length, get_or, take, ltb, leb, eqb, Option, Some, None}
 use Rattle.model.specs.declared.Pending.{Pending}
 use Rattle.model.specs.declared.Past.{Past}
-use Rattle.model.specs.Limits.{pages}
 use Rattle.model.specs.Lists.{both, either, pick, any_b}
 use Rattle.model.specs.Store.{Copy, Served, unserved, by, oldest, page_of, in_span, beyond_b}
 use Rattle.model.specs.Reads.{largest}
@@ -62,11 +61,12 @@ wants_b s m q = both (leb q.from s) (ltb m s)
 abbrev pub wanted_b : List ℕ → ℕ → Past → Bool
 wanted_b known m q = any_b (λ s. both (in_span s q) (ltb m s)) known
 
--- a row is judged where the scope is its page, or 32 for every page; the marks stand by page number
-abbrev pub in_scope : ℕ → Past → Bool
-in_scope scope q = either (eqb scope pages) (eqb (page_of q.object) scope)
+-- a row is judged where the scope is its page, or every page; the marks stand by page number
+abbrev pub in_scope : Option ℕ → Past → Bool
+in_scope (Some p) q = eqb (page_of q.object) p
+in_scope None q = true
 
 -- a row stays where it is not judged, or is live
-abbrev pub stays_by : ℕ → ℕ → List ℕ → List ℕ → Past → Bool
+abbrev pub stays_by : Option ℕ → ℕ → List ℕ → List ℕ → Past → Bool
 stays_by scope h known marks q =
     either (not (in_scope scope q)) (either (beyond_b h q) (wanted_b known (get_or marks (page_of q.object) 0) q))

@@ -12,7 +12,7 @@ use model::Past;
 
 // The largest of the first n snapshots at or before a time, or 0. They ascend, so it is the last of those at or before it.
 pub fn largest_known(snapshots: &Snapshots, n: usize, time: u64) -> u64
-    requires { (n ≤ 64) × (length snapshots.now ≡ 64) × (rising_from 0 (take n snapshots.now) ≡ true) }
+    requires { (n ≤ 64) × (rising_from 0 (take n snapshots.now) ≡ true) }
     ensures { result ≡ largest time (take n snapshots.now) }
 {
     let k = up_to(snapshots, n, leap(snapshots, n, time), time);
@@ -24,7 +24,7 @@ pub fn largest_known(snapshots: &Snapshots, n: usize, time: u64) -> u64
 
 // Eight snapshots at a step: how many are passed while the last of a step is at or before the time.
 fn leap(snapshots: &Snapshots, n: usize, time: u64) -> usize
-    requires { (n ≤ 64) × (length snapshots.now ≡ 64) }
+    requires { n ≤ 64 }
     ensures { (result ≤ n) × (0 < result → get_or snapshots.now (result - 1) 0 ≤ time) }
 {
     let mut k: usize = 0;
@@ -39,46 +39,38 @@ fn leap(snapshots: &Snapshots, n: usize, time: u64) -> usize
 
 // How many of the first n snapshots are at or before a time, where those before a start are.
 fn up_to(snapshots: &Snapshots, n: usize, from: usize, time: u64) -> usize
-    requires { (n ≤ 64) × (length snapshots.now ≡ 64) × («from» ≤ n) × (0 < «from» → get_or snapshots.now («from» - 1) 0 ≤ time) }
+    requires { (n ≤ 64) × («from» ≤ n) × (0 < «from» → get_or snapshots.now («from» - 1) 0 ≤ time) }
     ensures { (result ≤ n) × (0 < result → get_or snapshots.now (result - 1) 0 ≤ time) × (result < n → time < get_or snapshots.now result 0) }
 {
-    let mut k = from;
-    while k < n {
+    for k in from..n {
         if time < snapshots[k] {
             return k;
         }
-        k += 1;
     }
-    k
+    n
 }
 
 // The mark of a page by the first n copies. The other pages' are passed over in a search of their own, which waits for nothing.
 pub fn mark_of(t: &CopyTable, n: usize, page: u64) -> u64
-    requires { (n ≤ 128) × (length (copy_heads t.now) ≡ 128) }
+    requires { n ≤ 128 }
     ensures { (words : List ℕ) → result ≡ mark (take n (copies_of (copy_heads t.now) words)) page }
 {
     let mut best: u64 = 0;
     let mut i = trimmed_copies(t, n, page);
     while 0 < i {
-        i -= 1;
-        let c = crate::copy_at(t, i);
-        if best < c.stamp {
-            best = c.stamp;
-        }
-        i = trimmed_copies(t, i, page);
+        best = best.max(crate::copy_at(t, i - 1).stamp);
+        i = trimmed_copies(t, i - 1, page);
     }
     best
 }
 
 // The marks of all pages, by page number.
 pub fn marks_of(t: &CopyTable, n: usize, marks: &mut [u64; 32])
-    requires { (n ≤ 128) × (length (copy_heads t.now) ≡ 128) × (length marks.old ≡ 32) × (all_b (λ c. ltb c.page 32) (take n (copy_heads t.now)) ≡ true) }
+    requires { (n ≤ 128) × (all_b (λ c. ltb c.page 32) (take n (copy_heads t.now)) ≡ true) }
     ensures { ((words : List ℕ) (p : ℕ) → get_or marks.new p 0 ≡ mark (take n (copies_of (copy_heads t.now) words)) p) × (length marks.new ≡ 32) }
 {
-    clear(marks);
-    let mut i = n;
-    while 0 < i {
-        i -= 1;
+    marks.fill(0);
+    for i in (0..n).rev() {
         let c = crate::copy_at(t, i);
         let page = c.page as usize;
         let stamp = c.stamp;
@@ -88,29 +80,15 @@ pub fn marks_of(t: &CopyTable, n: usize, marks: &mut [u64; 32])
     }
 }
 
-fn clear(marks: &mut [u64; 32])
-    requires { length marks.old ≡ 32 }
-    ensures { ((p : ℕ) → get_or marks.new p 0 ≡ 0) × (length marks.new ≡ 32) }
-{
-    let mut p: usize = 0;
-    while p < 32 {
-        marks[p] = 0;
-        p += 1;
-    }
-}
-
 // Of the first n copies, those up to the page's last.
 fn trimmed_copies(t: &CopyTable, n: usize, page: u64) -> usize
     requires { n ≤ 128 }
     ensures { (result ≡ trimmed (λ c. eqb c.page page) (copy_head_of []) (copy_heads t.now) n) × (result ≤ n) }
 {
-    let mut i = n;
-    while 0 < i {
-        let c = crate::copy_at(t, i - 1);
-        if c.page == page {
-            return i;
+    for i in (0..n).rev() {
+        if crate::copy_at(t, i).page == page {
+            return i + 1;
         }
-        i -= 1;
     }
     0
 }
@@ -120,28 +98,24 @@ pub fn trimmed_past(t: &PastTable, n: usize, page: u64) -> usize
     requires { n ≤ 256 }
     ensures { (result ≡ trimmed (λ q. eqb (page_of q.object) page) (past_of []) (pasts t.now) n) × (result ≤ n) }
 {
-    let mut i = n;
-    while 0 < i {
-        let q = crate::past_at(t, i - 1);
-        if q.object / 16 == page {
-            return i;
+    for i in (0..n).rev() {
+        if crate::past_at(t, i).object / 16 == page {
+            return i + 1;
         }
-        i -= 1;
     }
     0
 }
 
 // The page's oldest copy with stamp >= s, the first row among equals: from the last row to the first, so that a row as old as
-// the best one takes its place. 128 says that there is none.
+// the best one takes its place.
 pub fn serving(t: &CopyTable, n: usize, page: u64, s: u64) -> Option<usize>
-    requires { (n ≤ 128) × (length (copy_heads t.now) ≡ 128) }
+    requires { n ≤ 128 }
     ensures { Serving page s n (copy_heads t.now) result }
 {
-    let mut best: u64 = 18446744073709551615;
-    let mut at: usize = 128;
-    let mut i = n;
-    while 0 < i {
-        i -= 1;
+    let mut best = u64::MAX;
+    // Kept: a row number with n for none, and no Option in the loop: that took four instructions more for each copy.
+    let mut at = n;
+    for i in (0..n).rev() {
         let c = crate::copy_at(t, i);
         if c.page == page {
             if s <= c.stamp {
@@ -152,26 +126,19 @@ pub fn serving(t: &CopyTable, n: usize, page: u64, s: u64) -> Option<usize>
             }
         }
     }
-    if at < 128 {
-        return Some(at);
-    }
-    None
+    if at < n { Some(at) } else { None }
 }
 
 // Some stamp of the row's span is beyond the horizon.
 pub fn beyond(q: Past, horizon: u64) -> bool
     ensures { result ≡ beyond_b horizon q }
 {
-    if q.from < q.until {
-        horizon < q.until - 1
-    } else {
-        false
-    }
+    q.from < q.until && horizon < q.until - 1
 }
 
 // The last of the first n snapshots before a stamp, or 0.
 pub fn last_before(snapshots: &Snapshots, n: usize, until: u64) -> u64
-    requires { (n ≤ 64) × (length snapshots.now ≡ 64) × (rising_from 0 (take n snapshots.now) ≡ true) }
+    requires { (n ≤ 64) × (rising_from 0 (take n snapshots.now) ≡ true) }
     ensures { result ≡ last_before (take n snapshots.now) until }
 {
     if until == 0 {
@@ -184,15 +151,12 @@ pub fn last_before(snapshots: &Snapshots, n: usize, until: u64) -> u64
 pub fn wants(q: Past, s: u64, marked: u64) -> bool
     ensures { result ≡ wants_b s marked q }
 {
-    if s < q.from {
-        return false;
-    }
-    marked < s
+    q.from <= s && marked < s
 }
 
 // Some known snapshot lies in the row's span, beyond a mark: if any does, the last one before the span's end.
 pub fn wanted(q: Past, snapshots: &Snapshots, n: usize, marked: u64) -> bool
-    requires { (n ≤ 64) × (length snapshots.now ≡ 64) × (rising_from 0 (take n snapshots.now) ≡ true) }
+    requires { (n ≤ 64) × (rising_from 0 (take n snapshots.now) ≡ true) }
     ensures { result ≡ wanted_b (take n snapshots.now) marked q }
 {
     wants(q, last_before(snapshots, n, q.until), marked)
@@ -200,12 +164,10 @@ pub fn wanted(q: Past, snapshots: &Snapshots, n: usize, marked: u64) -> bool
 
 // A page's mark is at a stamp or behind it: some copy of the page is.
 fn archived(t: &CopyTable, n: usize, page: u64, stamp: u64) -> bool
-    requires { (n ≤ 128) × (length (copy_heads t.now) ≡ 128) × (0 < stamp) }
+    requires { (n ≤ 128) × (0 < stamp) }
     ensures { (words : List ℕ) → result ≡ leb stamp (mark (take n (copies_of (copy_heads t.now) words)) page) }
 {
-    let mut i = n;
-    while 0 < i {
-        i -= 1;
+    for i in (0..n).rev() {
         let c = crate::copy_at(t, i);
         if c.page == page {
             if stamp <= c.stamp {
@@ -225,7 +187,7 @@ pub fn live(
     copies: &CopyTable,
     n: usize,
 ) -> bool
-    requires { (known ≤ 64) × (length snapshots.now ≡ 64) × (n ≤ 128) × (length (copy_heads copies.now) ≡ 128) × (rising_from 0 (take known snapshots.now) ≡ true) }
+    requires { (known ≤ 64) × (n ≤ 128) × (rising_from 0 (take known snapshots.now) ≡ true) }
     ensures { (words : List ℕ) → result ≡ live_b horizon (take known snapshots.now) (take n (copies_of (copy_heads copies.now) words)) q }
 {
     if beyond(q, horizon) {

@@ -4,3 +4,5 @@ pub mod Slots
 pub mod Words
 pub mod Entries
 pub mod Looks
+pub mod Showing
+pub mod Sights

@@ -10,6 +10,7 @@ use Rattle.tables.specs.declared.Written.{Written}
 use Rattle.tables.specs.Rows.{pendings, pasts}
 use Rattle.views.specs.declared.View.{View}
 use Rattle.views.specs.declared.ViewAnew.{ViewAnew}
+use Rattle.views.specs.Rows.{covers_by, shows_by}
 use Rattle.views.specs.declared.Word.{Word}
 use Rattle.views.specs.declared.Word.TheVariants.{Value, Age}
 
@@ -63,3 +64,10 @@ pub record LookableAnew (w : Written) (h : Heads) (page : ℕ) : Type 0 where
   pub past_count : h.past ≤ 256
   pub in_range : page < 32
   pub single : twice_b (map (λ e. e.object) (take h.pending (pendings w.pending))) ≡ false
+
+-- a row of the view's page that the view shows
+abbrev pub covers_b_anew : ViewAnew → Past → Bool
+covers_b_anew v q = both (eqb (page_of q.object) v.page) (covers_by v.as_of q)
+
+abbrev pub shows_b_anew : ViewAnew → Pending → Bool
+shows_b_anew v e = both (eqb (page_of e.object) v.page) (shows_by v.as_of e)

@@ -1,6 +1,8 @@
 // A page looked at through the tables: sixteen words over which first the past values and then the pending entries are laid.
 #![tactic(auto)]
 
+pub mod rows;
+
 ghost use Rattle.std.specs.Prelude.{◌≡◌, false, List, map, ℕ, ◌≤◌, ◌<◌, ◌+◌, length, take, drop, get_or, set, leb};
 ghost use Rattle.model.specs.declared.Seen.{Seen};
 ghost use Rattle.model.specs.Lists.{either, pick, twice_b};
@@ -8,10 +10,10 @@ ghost use Rattle.model.specs.Store.{page16, object_at, page_of, slot_of, pending
 ghost use Rattle.tables.specs.Rows.{pendings, pasts};
 ghost use Rattle.tables.specs.Lookups.{Indexed};
 ghost use Rattle.tables.specs.Contents.{contents};
-ghost use Rattle.views.specs.Views.{part_of, viewed, covers_b, shows_b, lay, Lookable, part_of_anew, viewed_anew, LookableAnew};
+ghost use Rattle.views.specs.Views.{part_of, viewed, covers_b, shows_b, lay, Lookable, part_of_anew, viewed_anew, covers_b_anew, shows_b_anew, LookableAnew};
 ghost use Rattle.model.specs.Store as model;
 
-use model::{Past, Pending};
+use model::{Past, Pending, Seen};
 use tables::{Disk, Heads, Index, PastTable, PendingTable, Written};
 
 // What is asked of a page: as of a stamp or current, and the values or their ages, which are the stamps that wrote them.
@@ -38,6 +40,18 @@ pub struct ViewAnew {
     pub word: Word,
 }
 
+impl Word {
+    // The word of a value and its stamp.
+    pub fn of(self, seen: Seen) -> u64
+        ensures { result ≡ part_of_anew self seen }
+    {
+        match self {
+            Word::Value => seen.value,
+            Word::Age => seen.stamp,
+        }
+    }
+}
+
 pub fn asked(v: ViewAnew) -> View
     ensures { (result.page ≡ v.page) × ((x : Seen) → part_of result.ages x ≡ part_of_anew v.word x) × ((st : model.Store) (o : ℕ) → viewed st result o ≡ viewed_anew st v o) }
 {
@@ -61,25 +75,12 @@ pub fn asked(v: ViewAnew) -> View
     }
 }
 
-fn copy_sixteen(words: &[u64], at: usize, out: &mut [u64])
-    requires { (at + 16 ≤ length words.now) × (length out.old ≡ 16) }
-    ensures { out.new ≡ take 16 (drop at words.now) }
-{
-    let mut k: usize = 0;
-    while k < 16 {
-        out[k] = words[at + k];
-        k += 1;
-    }
-}
-
-// Sixteen words from a place on. All are read before the first is written, so that the compiler may move several at a time.
+// Sixteen words from a place on.
 pub fn sixteen(words: &[u64], at: usize, out: &mut [u64])
     requires { (at + 16 ≤ length words.now) × (length out.old ≡ 16) }
     ensures { out.new ≡ take 16 (drop at words.now) }
 {
-    let mut held = [0u64; 16];
-    copy_sixteen(words, at, &mut held);
-    copy_sixteen(&held, 0, out);
+    out[..16].copy_from_slice(&words[at..at + 16]);
 }
 
 // A row of the view's page covers its stamp.
@@ -211,12 +212,39 @@ pub fn lay_disk_anew(w: &Written, page: u64, word: Word, out: &mut [u64])
     requires { (page < 32) × (length out.old ≡ 16) }
     ensures { out.new ≡ page16 (λ k. part_of_anew word (record { value = get_or w.now.disk (object_at page k) 0; stamp = get_or w.now.dated (object_at page k) 0 })) }
 {
-    let v = asked(ViewAnew {
-        page,
-        as_of: None,
-        word,
-    });
-    lay_disk(&w.disk, &w.dated, v, out);
+    let at = 16 * (page as usize);
+    match word {
+        Word::Value => sixteen(&w.disk, at, out),
+        Word::Age => sixteen(&w.dated, at, out),
+    }
+}
+
+// From the last of the page's rows to the first, so that the first that covers stays.
+fn lay_pasts(t: &PastTable, n: usize, v: ViewAnew, out: &mut [u64])
+    requires { (n ≤ 256) × (length out.old ≡ 16) }
+    ensures { out.new ≡ lay (covers_b_anew v) (λ q. slot_of q.object) (λ q. part_of_anew v.word (past_seen q)) (take n (pasts t.now)) out.old }
+{
+    for i in (0..n).rev() {
+        let q = tables::past_at(t, i);
+        if q.object / 16 == v.page {
+            rows::lay_row(q, (q.object % 16) as usize, v, out);
+        }
+    }
+}
+
+// Slot by slot, each object's entry found by the index. No two entries are of one object, so their order doesn't matter.
+fn lay_pendings(t: &PendingTable, n: usize, index: &Index, v: ViewAnew, out: &mut [u64])
+    requires indexed { Indexed index.now (take n (pendings t.now)) × (twice_b (map (λ e. e.object) (take n (pendings t.now))) ≡ false) }
+    requires bounds { (n ≤ 128) × (v.page < 32) × (length out.old ≡ 16) }
+    ensures { out.new ≡ lay (shows_b_anew v) (λ e. slot_of e.object) (λ e. part_of_anew v.word (pending_seen e)) (take n (pendings t.now)) out.old }
+{
+    let at = 16 * (v.page as usize);
+    for k in 0..16 {
+        let row = usize::from(index[at + k]);
+        if row < n {
+            rows::lay_row(tables::pending_at(t, row), k, v, out);
+        }
+    }
 }
 
 // The page as the view asks, where no copy serves.
@@ -226,12 +254,11 @@ pub fn look_at_anew(w: &Written, h: Heads, index: &Index, view: ViewAnew, out: &
     requires out_len { length out.old ≡ 16 }
     ensures { (snapshots : List ℕ) (copies : List (List ℕ)) (copied : List ℕ) → out.new ≡ page16 (λ k. viewed_anew (contents w.now.disk w.now.dated w.now.pending w.now.past snapshots copies copied h) view (object_at view.page k)) }
 {
-    let v = asked(view);
-    lay_disk(&w.disk, &w.dated, v, out);
-    if !v.current {
-        lay_past(&w.past, h.past, v, out);
+    lay_disk_anew(w, view.page, view.word, out);
+    if view.as_of.is_some() {
+        lay_pasts(&w.past, h.past, view, out);
     }
     if 0 < h.pending {
-        lay_entries(&w.pending, h.pending, index, v, out);
+        lay_pendings(&w.pending, h.pending, index, view, out);
     }
 }

@@ -27,7 +27,4 @@ abbrev pub Met : List (List ℕ) → ℕ → ℕ → Type 0
 Met t n fresh = (fresh < 128) × (twice_b (objects_of n (pendings t)) ≡ true)
 
 abbrev pub invariant-loop-i : goal.invariant-loop-i
-invariant-loop-i l = (l.i ≤ l.n) × (New l.t l.n l.index l.fresh l.i ⊎ Met l.t l.n l.fresh)
-
-abbrev pub decreases-loop-i : goal.decreases-loop-i
-decreases-loop-i l = l.n - l.i
+invariant-loop-i l = New l.t l.n l.index l.fresh l.i ⊎ Met l.t l.n l.fresh

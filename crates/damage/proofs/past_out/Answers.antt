@@ -1,22 +1,7 @@
--- The join of the objects so far, with the rows from i on, tells whether some object is out of range; at the end the join alone does.
-use Prim.Native.Nat.{◌+◌}
-use mathlib.Core.Path.{◌∙◌, ap}
-use native.Mathlib.Omega.{arith}
-use borrow.Author.Rules.{rules}
-use lib.Bits.{bit_or}
-use Rattle.tables.specs.Rows.{pasts}
-use Rattle.tables.proofs.Rows.{pasts_length}
-use Rattle.damage.proofs.Joins.{joined, join_more}
-use Rattle.damage.proofs.past_out.Invariants.{object_of}
+-- The join of the rows' numbers tells of them all.
+use mathlib.Core.Path.{◌∙◌}
+use Rattle.damage.proofs.Joins.{past_is}
 use Rattle.damage.proofs.past_out.Goals as goal
 
-pub loop-i-preserved : goal.loop-i-preserved
-loop-i-preserved c =
-    let v = c.loop-i in
-    let a = c.args in
-    let e = ap (λ row. bit_or v.all row.object) c.past_at-q.ensures in (
-      omega arith,
-      ap (joined object_of 9 a.n (pasts a.t.now) (v.i + 1)) e
-          ∙ join_more object_of 9 a.n (pasts a.t.now) v.i _ (omega arith) (omega (arith, pasts_length a.t.now 256 (search rules))) v.all
-          ∙ v.invariant.1,
-    )
+pub returns : goal.returns
+returns c = c.joined.ensures 9 ∙ past_is 9 c.args.n c.args.t.now

@@ -1,6 +1,9 @@
--- The judge of the tables judges the store.
-use borrow.Author.Rules.{rules}
+-- The known snapshots are those that the heads count.
+use mathlib.Core.Path.{refl}
+use native.Mathlib.Omega.{arith}
+use Rattle.tables.specs.Contents.{stored}
+use Rattle.tables.proofs.Counts.{up_to_take}
 use Rattle.gossips.proofs.judge_gossip_anew.Goals as goal
 
-pub judge_gossip-requires : goal.judge_gossip-requires
-judge_gossip-requires c = (search rules, c.requires.counted, c.requires.well_formed.0, c.requires.well_formed.1, c.requires.rising)
+pub returns : goal.returns
+returns c = let s = c.args.store.now in c.judge.ensures (stored s) (up_to_take 0 s.heads.snapshots s.snapshots (omega arith)) refl

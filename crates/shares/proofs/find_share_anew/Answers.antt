@@ -4,8 +4,12 @@ use borrow.Author.Rules.{rules}
 use Rattle.tables.proofs.Rows.{pasts_length, pendings_length}
 use Rattle.shares.proofs.find_share_anew.Goals as goal
 
-pub number_rows-rows-inside-requires : goal.number_rows-rows-inside-requires
-number_rows-rows-inside-requires c = (omega arith, pasts_length _ _ (search rules), search rules)
+pub number-requires : goal.number-requires
+number-requires c =
+    let r = pasts_length c.args.w.now.past 256 (search rules) in
+    (omega arith, (omega arith, omega arith, omega arith, omega arith))
 
-pub number_entries-entries-inside-requires : goal.number_entries-entries-inside-requires
-number_entries-entries-inside-requires c = (omega arith, pendings_length _ _ (search rules), search rules)
+pub number-requires-2 : goal.number-requires-2
+number-requires-2 c =
+    let r = pendings_length c.args.w.now.pending 128 (search rules) in
+    (omega arith, (omega arith, omega arith, omega arith, omega arith))

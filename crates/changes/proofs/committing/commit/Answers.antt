@@ -18,9 +18,7 @@ use Rattle.changes.proofs.committing.commit.Goals as goal
 use Rattle.changes.proofs.committing.commit.Goals.{After-settled-answer, Else-damaged_or_indexed, Else-named_twice, Else-not-commit_shaped}
 
 pub damaged_or_indexed-requires : goal.damaged_or_indexed-requires
-damaged_or_indexed-requires c =
-    let l = c.laid.ensures in
-    (l.pending_rows, l.past_rows, l.snapshot_words, l.copy_rows, refl, blank_at 128 512)
+damaged_or_indexed-requires c = blank_at 128 512
 
 pub returns-then-damaged_or_indexed : goal.returns-then-damaged_or_indexed
 returns-then-damaged_or_indexed c =
@@ -75,8 +73,8 @@ ready c =
       indexed = c.damaged_or_indexed.ensures.1 c.if-damaged_or_indexed.false;
     }
 
-pub judged-verdict-requires : goal.judged-verdict-requires
-judged-verdict-requires c = ready (goal.at.judged-verdict-requires c).Else-named_twice
+pub judged_before-verdict-requires : goal.judged_before-verdict-requires
+judged_before-verdict-requires c = ready (goal.at.judged_before-verdict-requires c).Else-named_twice
 
 pub settled-answer-requires : goal.settled-answer-requires
 settled-answer-requires c =
@@ -84,13 +82,13 @@ settled-answer-requires c =
     (omega (arith, f.short), f.placed)
 
 -- the verdict and the answer are the model's
-judged : (c : After-settled-answer) → let a = c.args in c.judged-verdict.result ≡ judge (contents a.disk.now a.dated.now a.pending.now a.past.now a.snapshots.now a.copies.now a.copied.now a.h) (commit a.t (paired a.objects.now a.values.now))
+judged : (c : After-settled-answer) → let a = c.args in c.judged_before-verdict.result ≡ judge (contents a.disk.now a.dated.now a.pending.now a.past.now a.snapshots.now a.copies.now a.copied.now a.h) (commit a.t (paired a.objects.now a.values.now))
 judged c =
     let a = c.args in
-    c.judged-verdict.ensures a.disk.now a.dated.now a.past.now a.copied.now a.values.now
+    c.judged_before-verdict.ensures a.disk.now a.dated.now a.past.now a.copied.now a.values.now
     (sym (listed a.objects.now a.values.now a.journal.now a.used.at (sym c.commit_shaped.ensures ∙ c.if-not-commit_shaped.false)).even)
 
-settles : (c : After-settled-answer) → let a = c.args in c.settled-answer.result ≡ roomed c.judged-verdict.result a.journal.now a.used.at (commit a.t (paired a.objects.now a.values.now))
+settles : (c : After-settled-answer) → let a = c.args in c.settled-answer.result ≡ roomed c.judged_before-verdict.result a.journal.now a.used.at (commit a.t (paired a.objects.now a.values.now))
 settles c =
     let a = c.args in
     c.settled-answer.ensures (commit a.t (paired a.objects.now a.values.now))
@@ -117,7 +115,7 @@ apply_commit-grown-requires c =
         sym f.even,
         λ disk dated copied.
             accepted_room (contents disk dated a.pending.now a.past.now a.snapshots.now a.copies.now copied a.h) a.t (paired a.objects.now a.values.now)
-            (sym (c.judged-verdict.ensures disk dated a.past.now copied a.values.now (sym f.even)) ∙ w.accepted),
+            (sym (c.judged_before-verdict.ensures disk dated a.past.now copied a.values.now (sym f.even)) ∙ w.accepted),
       );
     }
 

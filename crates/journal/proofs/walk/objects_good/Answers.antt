@@ -9,4 +9,4 @@ pub returns-then-count-eq1 : goal.returns-then-count-eq1
 returns-then-count-eq1 c = one_fine (drop 9 c.args.body.now) c.if-count-eq1.true c.get_be.ensures
 
 pub named_twice-requires : goal.named_twice-requires
-named_twice-requires c = shaped_low _ (sym c.objects_shaped.ensures ∙ c.if-not-objects_shaped.false)
+named_twice-requires c = shaped_low _ (sym c.objects_shaped.ensures ∙ c.if-objects_shaped.true)

@@ -6,7 +6,7 @@ use Rattle.model.specs.Records.{step_at}
 use Rattle.journal.specs.Heads.{head_step}
 use Rattle.std.specs.declared.option.Option.{Option}
 use Rattle.journal.specs.declared.walk.Record.{Record}
-use Rattle.journal.proofs.Walks.{at_end, at_torn, at_small, at_large, at_cut, at_read, told_step}
+use Rattle.journal.proofs.Walks.{at_end, at_torn, at_outside, at_cut, at_read, told_step}
 use Rattle.journal.proofs.walk.step_at.Goals as goal
 use Rattle.journal.proofs.walk.step_at.Goals.{After-read_record}
 
@@ -21,12 +21,7 @@ returns-then-left-lt2 c =
 pub returns-then-length-lt2 : goal.returns-then-length-lt2
 returns-then-length-lt2 c =
     let a = c.args in
-    at_small a.s.now a.p.at c.get_be-length.ensures (omega arith) (omega arith)
-
-pub returns-then-length-gt170 : goal.returns-then-length-gt170
-returns-then-length-gt170 c =
-    let a = c.args in
-    at_large a.s.now a.p.at c.get_be-length.ensures (omega arith) (omega arith)
+    at_outside a.s.now a.p.at c.get_be-length.ensures (omega arith) (λ lo hi. omega (arith, c.then-length-lt2.either))
 
 pub returns-then-left-length : goal.returns-then-left-length
 returns-then-left-length c =

@@ -1,7 +1,12 @@
--- The words passed are 0.
+-- A word's copy is the word.
 use native.Mathlib.Omega.{arith}
-use Rattle.restart.proofs.Zeros.{all_zeros}
+use mathlib.Core.Path.{◌≡◌, ap, ◌∙◌}
+use lib.ListN.{length, replicate}
+use Rattle.restart.specs.Turns.{zeros}
 use Rattle.restart.proofs.empty.clear.Goals as goal
 
 pub returns : goal.returns
-returns c = let v = c.loop-i in all_zeros v.words v.i v.invariant.1 (omega arith) v.invariant.2
+unfolding zeros
+returns c =
+    let l : length c.args.words.now ≡ 512 = omega arith in
+    c.fill.ensures.after (λ y e. e) ∙ ap (λ n. replicate n 0) l

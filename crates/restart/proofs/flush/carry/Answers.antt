@@ -1,19 +1,25 @@
--- Tables that hold a store are ready for a flush, and where the judge said yes the store with the flush fits them.
+-- A held store is ready for a flush, and where the judge said yes the store with the flush fits its tables.
+use Prim.Native.Nat.{ℕ, ◌<◌}
 use mathlib.Core.Path.{sym, ◌∙◌}
-use Rattle.restart.proofs.Holding.{flush_held}
-use Rattle.restart.proofs.Turning.{flush_room}
+use Rattle.tables.specs.declared.Store.{Store}
+use Rattle.tables.specs.Contents.{stored}
+use Rattle.flushes.specs.Promises.{ReadyAnew}
+use Rattle.flushes.proofs.Told.{accepted_room}
+use Rattle.restart.specs.Turns.{Held}
+use Rattle.restart.proofs.Holding.{sound}
+use Rattle.restart.proofs.Turning.{was_accepted}
 use Rattle.restart.proofs.flush.carry.Goals as goal
 
-pub judge_flush-judged-requires-clause-ready : goal.judge_flush-judged-requires-clause-ready
-judge_flush-judged-requires-clause-ready c = flush_held c.requires.held c.args.page c.requires.page_bound
+ready : (s : Store) (page : ℕ) → Held s → page < 32 → ReadyAnew s page
+ready s page h b = let u = sound s h in record { counted = u.counted; in_range = b; single = u.once; rising = u.rising }
 
-pub apply_flush-heads-requires-clause-ready : goal.apply_flush-heads-requires-clause-ready
-apply_flush-heads-requires-clause-ready c = flush_held c.requires.held c.args.page c.requires.page_bound
+pub judge_flush_anew-verdict-requires : goal.judge_flush_anew-verdict-requires
+judge_flush_anew-verdict-requires c = ready c.args.store.now c.args.page c.requires.held c.requires.page_bound
 
-pub apply_flush-heads-requires-clause-copied_len : goal.apply_flush-heads-requires-clause-copied_len
-apply_flush-heads-requires-clause-copied_len c =
-    let j = c.judge_flush-judged.ensures in (
-      c.requires.held.laid.copied_words,
-      j.by_index_2 c.args.copied.now,
-      flush_room c.args.page c.requires.held j.by_index (sym c.accepts.ensures ∙ c.if-not-accepts.false),
-    )
+pub apply_flush_anew-requires-clause-ready : goal.apply_flush_anew-requires-clause-ready
+apply_flush_anew-requires-clause-ready c = ready c.args.store.now c.args.page c.requires.held c.requires.page_bound
+
+pub apply_flush_anew-requires-clause-room : goal.apply_flush_anew-requires-clause-room
+apply_flush_anew-requires-clause-room c =
+    accepted_room (stored c.args.store.now) c.args.page
+    (sym c.judge_flush_anew-verdict.ensures.verdict ∙ was_accepted c.judge_flush_anew-verdict.result (sym c.accepts.ensures ∙ c.if-not-accepts.false))

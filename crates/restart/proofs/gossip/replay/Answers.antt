@@ -7,7 +7,7 @@ use Rattle.model.specs.Lists.{rising_from}
 use Rattle.model.specs.Changes.{gossip}
 use Rattle.journal.proofs.Walks.{blank_front, filled}
 use Rattle.restart.proofs.Standing.{gossip_stands}
-use Rattle.restart.proofs.Turning.{gossip_as}
+use Rattle.restart.proofs.Turning.{carried_as}
 use Rattle.restart.proofs.gossip.replay.Goals as goal
 
 pub overflow_add-at : goal.overflow_add-at
@@ -42,8 +42,8 @@ carry-requires-clause-stamps_len_bound c =
     let n = filled 8 8 c.args.head.count (drop (c.args.at + 20) c.args.journal.now) k.short c.get_column.ensures in
     (omega (arith, n.long, k.short), ap (rising_from c.args.head.prev) n.holds ∙ k.rises)
 
-pub returns : goal.returns
-returns c =
+pub returns-clause-carried : goal.returns-clause-carried
+returns-clause-carried c =
     let k = gossip_stands c.args.journal.now c.args.at c.requires.stands in
     let n = filled 8 8 c.args.head.count (drop (c.args.at + 20) c.args.journal.now) k.short c.get_column.ensures in
-    gossip_as c.carry.ensures (ap (gossip c.args.head.prev c.args.head.curr) n.holds ∙ sym k.is)
+    carried_as c.carry.ensures.carried (ap (gossip c.args.head.prev c.args.head.curr) n.holds ∙ sym k.is)

@@ -1,18 +1,13 @@
--- Each kind of record is carried out by its own replay.
+-- The entries of a held store can be indexed, and a flush that stands in the journal is of a page of the store.
 use mathlib.Core.Path.{subst}
 use Rattle.restart.specs.Turns.{Stands}
 use Rattle.restart.proofs.Standing.{flush_stands}
-use Rattle.restart.proofs.Holding.{held_objects, held_single, commit_held, gossip_held}
+use Rattle.restart.proofs.Holding.{sound}
 use Rattle.restart.proofs.replay.replay.Goals as goal
 
-pub renew-requires-clause-all : goal.renew-requires-clause-all
-renew-requires-clause-all c = (held_objects c.requires.held, held_single c.requires.held)
-
-pub replay-requires-clause-commit_ready : goal.replay-requires-clause-commit_ready
-replay-requires-clause-commit_ready c = commit_held c.requires.held
-
-pub replay-requires-in-Gossip-clause-gossip_ready : goal.replay-requires-in-Gossip-clause-gossip_ready
-replay-requires-in-Gossip-clause-gossip_ready c = gossip_held c.requires.held
+pub index_entries-requires-clause-all : goal.index_entries-requires-clause-all
+index_entries-requires-clause-all c = let u = sound c.args.store.now c.requires.held in
+    (u.objects, u.single)
 
 pub carry-requires-clause-page_bound : goal.carry-requires-clause-page_bound
 carry-requires-clause-page_bound c =

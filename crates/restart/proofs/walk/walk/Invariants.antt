@@ -1,6 +1,5 @@
--- What is left of the walk, from the store that the tables hold, is the whole walk.
+-- What is left of the walk, from the store that the struct holds, is the whole walk.
 use Prim.Native.Nat.{◌-◌}
-use mathlib.Core.Path.{◌≡◌}
 use lib.ListN.{length, take}
 use Rattle.tables.specs.Rows.{pendings}
 use Rattle.restart.specs.Turns.{Follows}
@@ -8,7 +7,7 @@ use Rattle.restart.proofs.Walking.{Walking}
 use Rattle.restart.proofs.walk.walk.Given as goal
 
 abbrev pub invariant-loop-offset : goal.invariant-loop-offset
-invariant-loop-offset l = Walking l.journal l.disk l.dated l.pending l.past l.snapshots l.copies l.copied l.heads l.at × Follows l.indexed l.index (take l.heads.pending (pendings l.pending)) × (length l.objects ≡ 16) × (length l.values ≡ 16)
+invariant-loop-offset l = Walking l.journal l.store l.place.at × Follows l.room.indexed l.room.index (take l.store.heads.pending (pendings l.store.written.pending))
 
 abbrev pub decreases-loop-offset : goal.decreases-loop-offset
-decreases-loop-offset l = length l.journal - l.at
+decreases-loop-offset l = length l.journal - l.place.at

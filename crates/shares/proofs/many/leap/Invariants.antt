@@ -1,10 +1,7 @@
--- All stamps before the last that was looked at are before it.
-use Prim.Native.Nat.{ℕ, ◌≤◌, ◌<◌, ◌-◌}
-use lib.ListN.{length, get_or}
+-- All stamps of the eights passed are before the stamp.
+use Prim.Native.Nat.{ℕ, ◌*◌, ◌<◌}
+use lib.ListN.{get_or}
 use Rattle.shares.proofs.many.leap.Given as goal
 
 abbrev pub invariant-loop-k : goal.invariant-loop-k
-invariant-loop-k l = (l.k ≤ length l.stamps) × ((i : ℕ) → i < l.k → get_or l.stamps i 0 < l.stamp)
-
-abbrev pub decreases-loop-k : goal.decreases-loop-k
-decreases-loop-k l = length l.stamps - l.k
+invariant-loop-k l = (i : ℕ) → i < 8 * l.k → get_or l.stamps i 0 < l.stamp

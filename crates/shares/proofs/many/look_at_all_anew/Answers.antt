@@ -1,16 +1,11 @@
--- The tables' lengths are told by their types.
+-- The words on disk, below the past rows, below the entries.
+use mathlib.Core.Path.{refl}
 use borrow.Author.Rules.{rules}
-use Rattle.tables.proofs.Rows.{pasts_length, pendings_length}
+use Rattle.shares.proofs.Stamps.{pages_same, page_listed}
 use Rattle.shares.proofs.many.look_at_all_anew.Goals as goal
 
-pub look_at_all-requires-clause-lookable : goal.look_at_all-requires-clause-lookable
-look_at_all-requires-clause-lookable c = record {
-  value_words = search rules;
-  stamp_words = search rules;
-  pending_rows = pendings_length _ _ (search rules);
-  past_rows = pasts_length _ _ (search rules);
-  pending_count = c.requires.lookable.pending_count;
-  past_count = c.requires.lookable.past_count;
-  in_range = c.requires.lookable.in_range;
-  single = c.requires.lookable.single;
-}
+pub returns : goal.returns
+returns c = let a = c.args in
+    pages_same (page_listed a.w.now a.h a.page a.word (record { pending_rows = search rules; past_rows = search rules }) c.requires.lookable a.share.now c.requires.shared)
+    (rw (← c.listed-2.ensures, ← c.listed.ensures)
+    (c.lay_numbered-2.ensures _ a.words.now (c.lay_numbered.ensures _ a.words.now (c.lay_disk_words.ensures a.stamps.now refl))))

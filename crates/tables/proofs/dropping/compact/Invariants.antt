@@ -4,7 +4,4 @@ use Rattle.tables.specs.Compaction.{Compacted}
 use Rattle.tables.proofs.dropping.compact.Given as goal
 
 abbrev pub invariant-loop-i : goal.invariant-loop-i
-invariant-loop-i l = (l.i ≤ l.n) × Compacted l.stay l.i l.initial.rows l.rows l.k
-
-abbrev pub decreases-loop-i : goal.decreases-loop-i
-decreases-loop-i l = l.n - l.i
+invariant-loop-i l = Compacted l.stay l.i l.initial.rows l.rows l.k

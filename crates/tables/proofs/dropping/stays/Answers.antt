@@ -1,27 +1,18 @@
--- Out of scope, beyond the horizon, or wanted beyond the mark of the page.
+-- Beyond the horizon, or wanted beyond the mark of the page.
 use Prim.Native.Nat.{◌≤◌, ◌/◌}
 use mathlib.Core.Path.{◌≡◌, refl, ◌∙◌, sym}
-use mathlib.Core.Bool.{true}
 use native.Mathlib.Omega.{arith}
-use lib.ListN.{length, get_or-eq_default}
-use Rattle.tables.specs.Lookups.{in_scope}
+use lib.ListN.{length, get_or, get_or-eq_default}
 use Rattle.tables.proofs.Living.{stays_last}
 use Rattle.tables.proofs.dropping.stays.Goals as goal
-use Rattle.tables.proofs.dropping.stays.Goals.{Else-not-in_scope}
-
--- past the first test the row is in scope
-scoped : (c : Else-not-in_scope) → in_scope c.args.scope c.args.q ≡ true
-scoped c = sym c.in_scope.ensures ∙ c.if-not-in_scope.false
-
-pub returns-then-page-lt32 : goal.returns-then-page-lt32
-returns-then-page-lt32 c = let a = c.args in
-    let i = scoped (goal.at.returns-then-page-lt32 c).Else-not-in_scope in
-    let e = sym c.beyond.ensures ∙ c.if-beyond.false in
-    λ known l. c.wants.ensures ∙ stays_last a.horizon known a.q a.scope a.marks.now a.s _ (l i) i e refl
+use Rattle.tables.proofs.dropping.stays.Goals.{then-page-lt32, else-page-lt32}
 
 pub returns : goal.returns
-returns c = let a = c.args in
-    let i = scoped (goal.at.returns c).Else-not-in_scope in
+returns c =
+    let a = c.args in
+    let p = a.q.object / 16 in
+    let o : 32 ≤ p → length a.marks.now ≤ p = λ h. omega arith in
+    let m : c.if-page-lt32.marked ≡ get_or a.marks.now p 0 =
+    (elim c.if-page-lt32.branch [ then-page-lt32 w ↦ w.marked-is | else-page-lt32 w ↦ w.marked-is ∙ sym (get_or-eq_default a.marks.now 0 (o w.if-page-lt32.false)) ]) in
     let e = sym c.beyond.ensures ∙ c.if-beyond.false in
-    let o : length a.marks.now ≤ a.q.object / 16 = omega arith in
-    λ known l. c.wants-2.ensures ∙ stays_last a.horizon known a.q a.scope a.marks.now a.s _ (l i) i e (sym (get_or-eq_default a.marks.now 0 o))
+    λ scope known i l. c.wants.ensures ∙ stays_last a.horizon known a.q scope a.marks.now a.s _ l i e m

@@ -6,7 +6,4 @@ use Rattle.tables.specs.Rows.{pasts}
 use Rattle.tables.proofs.dropping.unpacked.Given as goal
 
 abbrev pub invariant-loop-i : goal.invariant-loop-i
-invariant-loop-i l = (l.i ≤ l.n) × (length l.rows ≡ 16) × (take l.i l.rows ≡ take l.i (drop l.from (pasts l.t)))
-
-abbrev pub decreases-loop-i : goal.decreases-loop-i
-decreases-loop-i l = l.n - l.i
+invariant-loop-i l = (length l.rows ≡ 16) × (take l.i l.rows ≡ take l.i (drop l.from (pasts l.t)))

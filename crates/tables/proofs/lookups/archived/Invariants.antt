@@ -6,7 +6,4 @@ use Rattle.tables.proofs.Marks.{mark_from}
 use Rattle.tables.proofs.lookups.archived.Given as goal
 
 abbrev pub invariant-loop-i : goal.invariant-loop-i
-invariant-loop-i l = (l.i ≤ l.n) × ((words : List ℕ) → mark_from (copy_heads l.t) l.n l.i words l.page < l.stamp)
-
-abbrev pub decreases-loop-i : goal.decreases-loop-i
-decreases-loop-i l = l.i
+invariant-loop-i l = ((words : List ℕ) → mark_from (copy_heads l.t) l.n l.i words l.page < l.stamp)

@@ -8,7 +8,4 @@ use Rattle.tables.proofs.Marks.{mark_from}
 use Rattle.tables.proofs.lookups.marks_of.Given as goal
 
 abbrev pub invariant-loop-i : goal.invariant-loop-i
-invariant-loop-i l = (l.i ≤ l.n) × (length l.marks ≡ 32) × ((words : List ℕ) (p : ℕ) → get_or l.marks p 0 ≡ mark_from (copy_heads l.t) l.n l.i words p)
-
-abbrev pub decreases-loop-i : goal.decreases-loop-i
-decreases-loop-i l = l.i
+invariant-loop-i l = (length l.marks ≡ 32) × ((words : List ℕ) (p : ℕ) → get_or l.marks p 0 ≡ mark_from (copy_heads l.t) l.n l.i words p)

@@ -5,7 +5,4 @@ use Rattle.tables.proofs.Oldest.{Held}
 use Rattle.tables.proofs.lookups.serving.Given as goal
 
 abbrev pub invariant-loop-i : goal.invariant-loop-i
-invariant-loop-i l = (l.i ≤ l.n) × Held (copy_heads l.t) l.n l.page l.s l.best l.at l.i
-
-abbrev pub decreases-loop-i : goal.decreases-loop-i
-decreases-loop-i l = l.i
+invariant-loop-i l = Held (copy_heads l.t) l.n l.page l.s l.best l.at l.i

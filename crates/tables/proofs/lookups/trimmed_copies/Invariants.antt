@@ -13,7 +13,4 @@ abbrev pub is_of : ℕ → CopyHead → Bool
 is_of p x = eqb x.page p
 
 abbrev pub invariant-loop-i : goal.invariant-loop-i
-invariant-loop-i l = (l.i ≤ l.n) × (trimmed (is_of l.page) (copy_head_of []) (copy_heads l.t) l.i ≡ trimmed (is_of l.page) (copy_head_of []) (copy_heads l.t) l.n)
-
-abbrev pub decreases-loop-i : goal.decreases-loop-i
-decreases-loop-i l = l.i
+invariant-loop-i l = (trimmed (is_of l.page) (copy_head_of []) (copy_heads l.t) l.i ≡ trimmed (is_of l.page) (copy_head_of []) (copy_heads l.t) l.n)

@@ -14,7 +14,4 @@ abbrev pub is_of : ℕ → Past → Bool
 is_of p x = eqb (page_of x.object) p
 
 abbrev pub invariant-loop-i : goal.invariant-loop-i
-invariant-loop-i l = (l.i ≤ l.n) × (trimmed (is_of l.page) (past_of []) (pasts l.t) l.i ≡ trimmed (is_of l.page) (past_of []) (pasts l.t) l.n)
-
-abbrev pub decreases-loop-i : goal.decreases-loop-i
-decreases-loop-i l = l.i
+invariant-loop-i l = (trimmed (is_of l.page) (past_of []) (pasts l.t) l.i ≡ trimmed (is_of l.page) (past_of []) (pasts l.t) l.n)

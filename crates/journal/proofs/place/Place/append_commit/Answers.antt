@@ -8,14 +8,14 @@ use Rattle.journal.proofs.place.Place.append_commit.Goals.{Start}
 abbrev told : Start → Change
 told c = commit c.args.t (paired c.args.objects.now c.args.values.now)
 
-pub begun-p-requires : goal.begun-p-requires
-begun-p-requires c = omega (arith, reached_is c.args.self.at (told (goal.at.begun-p-requires c).Start))
+pub begun-requires : goal.begun-requires
+begun-requires c = omega (arith, reached_is c.args.self.at (told (goal.at.begun-requires c).Start))
 
 pub put_commit-requires : goal.put_commit-requires
 put_commit-requires c =
     let n = paired_length c.args.objects.now c.args.values.now c.requires.0 in
-    (c.requires.0, c.requires.1, omega (arith, begun_fits (told (goal.at.put_commit-requires c).Start) c.begun-p.ensures c.requires.2))
+    (c.requires.0, c.requires.1, omega (arith, begun_fits (told (goal.at.put_commit-requires c).Start) c.begun.ensures c.requires.2))
 
 pub returns : goal.returns
 returns c =
-    begun_then (told (goal.at.returns c).Start) c.begun-p.ensures c.requires.2 c.put_commit.ensures
+    begun_then (told (goal.at.returns c).Start) c.begun.ensures c.requires.2 c.put_commit.ensures

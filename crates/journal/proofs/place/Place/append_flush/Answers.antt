@@ -4,13 +4,13 @@ use Rattle.model.specs.Changes.{flush}
 use native.Mathlib.Omega.{arith}
 use Rattle.journal.proofs.place.Place.append_flush.Goals as goal
 
-pub begun-p-requires : goal.begun-p-requires
-begun-p-requires c = omega (arith, reached_is c.args.self.at (flush c.args.page))
+pub begun-requires : goal.begun-requires
+begun-requires c = omega (arith, reached_is c.args.self.at (flush c.args.page))
 
 pub put_flush-requires : goal.put_flush-requires
 put_flush-requires c =
-    begun_fits (flush c.args.page) c.begun-p.ensures c.requires
+    begun_fits (flush c.args.page) c.begun.ensures c.requires
 
 pub returns : goal.returns
 returns c =
-    begun_then (flush c.args.page) c.begun-p.ensures c.requires c.put_flush.ensures
+    begun_then (flush c.args.page) c.begun.ensures c.requires c.put_flush.ensures

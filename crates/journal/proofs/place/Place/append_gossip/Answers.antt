@@ -8,13 +8,13 @@ use Rattle.journal.proofs.place.Place.append_gossip.Goals.{Start}
 abbrev told : Start → Change
 told c = gossip c.args.prev c.args.curr c.args.stamps.now
 
-pub begun-p-requires : goal.begun-p-requires
-begun-p-requires c = omega (arith, reached_is c.args.self.at (told (goal.at.begun-p-requires c).Start))
+pub begun-requires : goal.begun-requires
+begun-requires c = omega (arith, reached_is c.args.self.at (told (goal.at.begun-requires c).Start))
 
 pub put_gossip-requires : goal.put_gossip-requires
 put_gossip-requires c =
-    (c.requires.0, omega (arith, begun_fits (told (goal.at.put_gossip-requires c).Start) c.begun-p.ensures c.requires.1))
+    (c.requires.0, omega (arith, begun_fits (told (goal.at.put_gossip-requires c).Start) c.begun.ensures c.requires.1))
 
 pub returns : goal.returns
 returns c =
-    begun_then (told (goal.at.returns c).Start) c.begun-p.ensures c.requires.1 c.put_gossip.ensures
+    begun_then (told (goal.at.returns c).Start) c.begun.ensures c.requires.1 c.put_gossip.ensures

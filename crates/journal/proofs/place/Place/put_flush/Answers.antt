@@ -6,4 +6,4 @@ use Rattle.journal.proofs.place.Place.put_flush.Goals as goal
 pub returns : goal.returns
 unfolding encode
 returns c =
-    left_last c.put.ensures (left_next c.put-b.ensures (left_next c.put-a.ensures (left_all c.requires)))
+    left_last c.put-3.ensures (left_next c.put-2.ensures (left_next c.put.ensures (left_all c.requires)))

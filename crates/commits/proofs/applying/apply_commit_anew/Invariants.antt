@@ -1,0 +1,10 @@
+-- The writes made with those to come are all.
+use Prim.Native.Nat.{◌≤◌}
+use mathlib.Core.Path.{◌≡◌}
+use lib.ListN.{length}
+use Rattle.tables.specs.Rows.{pendings}
+use Rattle.commits.proofs.Commit.{Written}
+use Rattle.commits.proofs.applying.apply_commit_anew.Given as goal
+
+abbrev pub invariant-loop-object : goal.invariant-loop-object
+invariant-loop-object l = Written l.t l.objects l.values l.fn.store l.store l.index (length l.yielded)

@@ -1,0 +1,5 @@
+pub mod Undamaged
+pub mod Served
+pub mod Figured
+pub mod Listed
+pub mod Answers

@@ -1,0 +1,172 @@
+-- The walk over the journal: some fuel is enough for what is left, and each step of the code is the model's.
+use Prim.Native.Nat.{ℕ, zero, suc, ◌+◌, ◌≤◌, ◌<◌}
+use mathlib.Core.Path.{◌≡◌, refl, ap, sym, ◌∙◌, subst}
+use mathlib.Core.Bool.{Bool, true, false}
+use mathlib.Core.List.{List, [], ◌∷◌}
+use native.Mathlib.Omega.{arith}
+use lib.ListN.{length, get_or}
+use borrow.Author.Tests.{lt-ltb, le-ltb, eq-eqb, ne_eqb}
+use Rattle.model.specs.declared.Answer.{Answer}
+use Rattle.model.specs.declared.Answer.TheVariants.{Done, Shape, Version, Malformed, Contradiction}
+use Rattle.model.specs.declared.Verdict.{Verdict}
+use Rattle.model.specs.declared.Verdict.TheVariants.{Accepted, Idle, Refused}
+use Rattle.model.specs.Store.{Store, fresh}
+use Rattle.model.specs.Changes.{after}
+use Rattle.model.specs.Judgement.{judge}
+use Rattle.model.specs.Records.{Step, end, short, malformed, whole, step_at}
+use Rattle.model.specs.Restart.{Restarted, resumed, refused, admitted, stepped, walk, fresh_start, restart}
+use Rattle.journal.specs.Heads.{head_step}
+use Rattle.journal.specs.declared.place.Place.{Place}
+use Rattle.journal.specs.declared.walk.Record.{Record}
+use Rattle.journal.specs.declared.walk.Step.TheVariants as told
+use Rattle.journal.proofs.Walks.{at_end}
+use Rattle.history.proofs.Laws.{never, clash}
+use Rattle.tables.specs.declared.Heads.{Heads}
+use Rattle.tables.specs.Contents.{contents}
+use Rattle.restart.specs.Promises.{Rebuilt}
+use Rattle.restart.specs.lent.Turns.{Held, Carried}
+use Rattle.restart.specs.Turns.{change_at, accepted_b, Turned}
+use Rattle.restart.proofs.Standing.{told_whole, Lies, lies}
+use Rattle.restart.proofs.Before.Turning.{was_accepted}
+use Rattle.restart.proofs.Before.Holding.{next_held}
+
+-- ---- a step by what is told of it
+told_end : (s : Step) → head_step s ≡ told.End → s ≡ end
+told_end end e = refl
+told_end short e = never (cc)
+told_end (malformed o) e = never (cc)
+told_end (whole c n) e = never (cc)
+
+told_short : (s : Step) → head_step s ≡ told.Short → s ≡ short
+told_short end e = never (cc)
+told_short short e = refl
+told_short (malformed o) e = never (cc)
+told_short (whole c n) e = never (cc)
+
+told_malformed : (s : Step) {o : ℕ} → head_step s ≡ told.Malformed o → s ≡ malformed o
+told_malformed end e = never (cc)
+told_malformed short e = never (cc)
+told_malformed (malformed o) e = cc
+told_malformed (whole c n) e = never (cc)
+
+not_admitted : (v : Verdict) (at : ℕ) (more : Restarted) → false ≡ accepted_b v → admitted v at more ≡ refused (Contradiction at)
+not_admitted Accepted at more h = clash true refl (sym h)
+not_admitted Idle at more h = refl
+not_admitted (Refused a) at more h = refl
+
+-- ---- what is left of the walk
+module _ (j : List ℕ) (at : ℕ) (st : Store) where
+  pub walk_end : (n : ℕ) → head_step (step_at j at) ≡ told.End → walk n j at st ≡ resumed st at
+  unfolding walk
+  walk_end zero e = refl
+  walk_end (suc n) e = rw (told_end (step_at j at) e)
+
+  pub walk_short : (n : ℕ) → head_step (step_at j at) ≡ told.Short → walk n j at st ≡ resumed st at
+  unfolding walk
+  walk_short zero e = refl
+  walk_short (suc n) e = rw (told_short (step_at j at) e)
+
+  pub walk_malformed : (n o : ℕ) → length j ≤ at + n → head_step (step_at j at) ≡ told.Malformed o → walk n j at st ≡ refused (Malformed o)
+  unfolding walk
+  walk_malformed zero o h e = let z = at_end j at (omega arith) in never (cc)
+  walk_malformed (suc n) o h e = rw (told_malformed (step_at j at) e)
+
+  module _ {r : Record} {p : Place} (e : head_step (step_at j at) ≡ told.Whole r p) where
+    lies_there : Lies j at p.at (change_at j at)
+    lies_there = lies j at p.at (change_at j at) (told_whole (step_at j at) e).0
+
+    pub moves_on : (at < p.at) × (p.at ≤ length j)
+    moves_on = let l = lies_there in (omega (arith, l.ends), omega (arith, l.ends, l.inside))
+
+    walk_whole : (n : ℕ) → walk (suc n) j at st ≡ admitted (judge st (change_at j at)) at (walk n j p.at (after st (change_at j at)))
+    unfolding walk
+    walk_whole n =
+        ap (λ (s : Step). stepped s at st (λ c next. walk n j next (after st c))) (told_whole (step_at j at) e).0
+
+    pub walk_contradicts : (n : ℕ) {st' : Store} → length j ≤ at + n → Turned st (change_at j at) false st' → walk n j at st ≡ refused (Contradiction at)
+    walk_contradicts zero h t = let z = at_end j at (omega arith) in never (cc)
+    walk_contradicts (suc n) h t = walk_whole n ∙ not_admitted (judge st (change_at j at)) at _ t.says
+
+    pub walk_next : (n : ℕ) {st' : Store} → length j ≤ at + n → Turned st (change_at j at) true st'
+        → (m : ℕ) × (length j ≤ p.at + m) × (walk n j at st ≡ walk m j p.at st')
+    walk_next zero h t = let z = at_end j at (omega arith) in never (cc)
+    walk_next (suc n) {st'} h t =
+        let l = moves_on in
+        let v : judge st (change_at j at) ≡ Accepted = was_accepted (judge st (change_at j at)) (sym t.says) in (
+          n,
+          omega arith,
+          walk_whole n ∙ ap (λ (x : Verdict). admitted x at (walk n j p.at (after st (change_at j at)))) v ∙ ap (walk n j p.at) (sym t.contains),
+        )
+
+-- ---- the loop: the tables hold a whole store, and the rest of the walk from it is the whole walk
+pub record Walking (j values stamps : List ℕ) (pending past : List (List ℕ)) (snapshots : List ℕ) (copies : List (List ℕ)) (copied : List ℕ) (h : Heads) (at : ℕ) : Type 0 where
+  pub fuel : ℕ
+  pub enough : length j ≤ at + fuel
+  pub held : Held values stamps pending past snapshots copies copied h
+  pub rest : walk fuel j at (contents values stamps pending past snapshots copies copied h) ≡ walk (length j) j 1 fresh
+
+pub rebuilt_as : {x y : Restarted} {a : Answer} {st : Store} {place : ℕ} → x ≡ y → Rebuilt y a st place → Rebuilt x a st place
+rebuilt_as {x} {y} {a} {st} {place} e r = subst (λ (z : Restarted). Rebuilt z a st place) (sym e) r
+
+module _ {j values stamps : List ℕ} {pending past : List (List ℕ)} {snapshots : List ℕ} {copies : List (List ℕ)} {copied : List ℕ} {h : Heads} {at : ℕ}
+    (w : Walking j values stamps pending past snapshots copies copied h at) where
+  abbrev held_now : Store
+  held_now = contents values stamps pending past snapshots copies copied h
+
+  resumes : walk w.fuel j at held_now ≡ resumed held_now at → {h' : Heads} {a : Answer} {place : ℕ} → (h' ≡ h) × (a ≡ Done at) × (place ≡ at)
+      → Rebuilt (walk (length j) j 1 fresh) a (contents values stamps pending past snapshots copies copied h') place
+  resumes e d =
+      rebuilt_as (sym w.rest ∙ e)
+      (record { answered = d.1; contains = ap (λ (x : Heads). contents values stamps pending past snapshots copies copied x) d.0; place_is = d.2 })
+
+  pub walked_end : head_step (step_at j at) ≡ told.End → {h' : Heads} {a : Answer} {place : ℕ} → (h' ≡ h) × (a ≡ Done at) × (place ≡ at)
+      → Rebuilt (walk (length j) j 1 fresh) a (contents values stamps pending past snapshots copies copied h') place
+  walked_end e d = resumes (walk_end j at held_now w.fuel e) d
+
+  pub walked_short : head_step (step_at j at) ≡ told.Short → {h' : Heads} {a : Answer} {place : ℕ} → (h' ≡ h) × (a ≡ Done at) × (place ≡ at)
+      → Rebuilt (walk (length j) j 1 fresh) a (contents values stamps pending past snapshots copies copied h') place
+  walked_short e d = resumes (walk_short j at held_now w.fuel e) d
+
+  pub walked_malformed : {o : ℕ} {a : Answer} {st : Store} {place : ℕ} → head_step (step_at j at) ≡ told.Malformed o → Rebuilt (refused (Malformed o)) a st place
+      → Rebuilt (walk (length j) j 1 fresh) a st place
+  walked_malformed {o} e r = rebuilt_as (sym w.rest ∙ walk_malformed j at held_now w.fuel o w.enough e) r
+
+  module _ {r : Record} {p : Place} (e : head_step (step_at j at) ≡ told.Whole r p) {b : Bool} {values' stamps' : List ℕ} {pending' past' : List (List ℕ)} {snapshots' : List ℕ} {copies' : List (List ℕ)} {copied' : List ℕ} {h' : Heads}
+      (t : Carried held_now (change_at j at) b values' stamps' pending' past' snapshots' copies' copied' h') where
+    pub walked_contradicts : b ≡ false → {a : Answer} {st : Store} {place : ℕ} → Rebuilt (refused (Contradiction at)) a st place
+        → Rebuilt (walk (length j) j 1 fresh) a st place
+    walked_contradicts f r =
+        let u = subst (λ (x : Bool). Turned held_now (change_at j at) x (contents values' stamps' pending' past' snapshots' copies' copied' h')) f t.turned in
+        rebuilt_as (sym w.rest ∙ walk_contradicts j at held_now e w.fuel w.enough u) r
+
+    pub walked_on : b ≡ true → Walking j values' stamps' pending' past' snapshots' copies' copied' h' p.at
+    walked_on f =
+        let u = subst (λ (x : Bool). Carried held_now (change_at j at) x values' stamps' pending' past' snapshots' copies' copied' h') f t in
+        let n = walk_next j at held_now e w.fuel w.enough u.turned in
+        record {
+          fuel = n.0;
+          enough = n.1;
+          held = next_held w.held.whole (lies_there j at held_now e).formed u;
+          rest = sym n.2 ∙ w.rest;
+        }
+
+-- ---- the journal's first byte
+module _ (j : List ℕ) where
+  pub restart_shape : 65535 < length j → restart j ≡ refused Shape
+  unfolding restart
+  restart_shape h = rw (lt-ltb 65535 (length j) h)
+
+pub restart_empty : (j : List ℕ) → length j ≡ 0 → restart j ≡ refused (Done 0)
+unfolding restart fresh_start
+restart_empty [] h = refl
+restart_empty (v ∷ rest) h = absurd (omega arith)
+
+pub restart_version : (j : List ℕ) → length j ≤ 65535 → 0 < length j → (get_or j 0 0 ≡ 1 → ⊥) → restart j ≡ refused (Version (get_or j 0 0))
+unfolding restart
+restart_version [] h l n = absurd (omega arith)
+restart_version (v ∷ rest) h l n = rw (le-ltb 65535 (length (v ∷ rest)) h, ne_eqb v 1 n)
+
+pub restart_walk : (j : List ℕ) → length j ≤ 65535 → 0 < length j → get_or j 0 0 ≡ 1 → restart j ≡ walk (length j) j 1 fresh
+unfolding restart
+restart_walk [] h l n = absurd (omega arith)
+restart_walk (v ∷ rest) h l n = rw (le-ltb 65535 (length (v ∷ rest)) h, eq-eqb v 1 n)
