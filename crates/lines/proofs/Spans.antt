@@ -15,7 +15,7 @@ use Rattle.lines.specs.Promises.{bytes_of, Stands}
 use Rattle.lines.specs.declared.words.Class.TheVariants.{Gap, Ink}
 use Rattle.lines.specs.declared.words.Span.{Span}
 use Rattle.lines.proofs.Cases.{by_test}
-use Rattle.lines.proofs.Runs.{run_within, run_from}
+use Rattle.lines.proofs.Runs.{run_within}
 
 rest_of : (s : List ℕ) (at : ℕ) → take (length s - at) (drop at s) ≡ drop at s
 rest_of s at = take_all (length s - at) (drop at s) (simp length-drop (omega arith))

@@ -1,8 +1,9 @@
 -- What the parts of the reader promise each other: where the next word is, what is taken from the front of the words, what a list leaves.
-use Rattle.std.specs.Prelude.{ℕ, ◌+◌, ◌-◌, ◌≤◌, ◌<◌, ◌≡◌, List, [], ◌∷◌, Option, Result, MatchOption, map, length, take, drop}
+use Rattle.std.specs.Prelude.{ℕ, ◌+◌, ◌-◌, ◌≤◌, ◌<◌, ◌≡◌, List, [], ◌∷◌, Option, Result, MatchOption, MatchResult, map, length, take, drop}
 use Rattle.lines.specs.Words.{Word, word, words_from}
 use Rattle.lines.specs.Behind.{tail}
 use Rattle.lines.specs.Lines.{kept, counted, Begins}
+use Rattle.lines.specs.declared.Fault.TheVariants.{Missing}
 use Rattle.lines.specs.declared.Mistake.{Mistake}
 use Rattle.lines.specs.declared.words.Span.{Span}
 use Rattle.lines.specs.declared.words.Reader.{Reader}
@@ -39,6 +40,9 @@ pub record Ended (r r' : Reader) : Type 0 where
 
 abbrev pub Next : Reader → Reader → Option Span → Type 0
 Next r r' o = MatchOption o (Ended r r') (λ s. Found r r' s)
+
+abbrev pub Needs : Reader → Reader → Result Span Mistake → Type 0
+Needs r r' o = MatchResult o (λ s. Found r r' s) (λ m. Ended r r' × (m ≡ record { fault = Missing; column = end_of r }))
 
 -- a reader passes the next word
 pub record Passed (r r' : Reader) : Type 0 where

@@ -78,7 +78,8 @@ pub enum Call {
     Hear(usize, usize),
 }
 
-// The numbers of a line's list, at the front: objects and values of a commit, stamps of a gossip. The call tells how many they are.
+// The numbers of a line's list, at the front: objects and values of a commit, stamps of a gossip.
+// Kept: two arrays, since objects and values are lent on as two slices; and the call tells how many they are, as `parsed` of specs/Lines.antt does.
 #[derive(Drop)]
 pub struct Listed {
     pub firsts: [u64; 17],

@@ -2,8 +2,7 @@
 ghost use Rattle.std.specs.Prelude.{◌≡◌};
 ghost use Rattle.lines.specs.Words.{words};
 ghost use Rattle.lines.specs.Behind.{first_number, first_hex, closing};
-ghost use Rattle.lines.specs.Promises.{ahead, end_of, Next, Passed};
-ghost use Rattle.lines.specs.declared.Fault.TheVariants.{Missing};
+ghost use Rattle.lines.specs.Promises.{ahead, end_of, Next, Needs, Passed};
 
 use crate::words::{Class, Reader, Span};
 use crate::{Fault, Mistake, numbers, words};
@@ -30,11 +29,12 @@ impl<'a> Reader<'a> {
         Some(Span { from, to })
     }
 
-    // What is missed behind the line's last word.
-    fn missing(&self) -> Mistake
-        ensures { result ≡ record { fault = Missing; column = end_of self.now } }
+    // The next word, which is missed behind the last one.
+    fn needed_word(&mut self) -> Result<Span, Mistake>
+        ensures { Needs self.old self.new result }
     {
-        Fault::Missing.at(self.text.len() + 1)
+        let missing = Fault::Missing.at(self.text.len() + 1);
+        self.next_word().ok_or(missing)
     }
 
     // The next word, as a number.
@@ -42,10 +42,8 @@ impl<'a> Reader<'a> {
         ensures value { result ≡ first_number (end_of self.old) (ahead self.old) }
         ensures rest { Passed self.old self.new }
     {
-        match self.next_word() {
-            None => Err(self.missing()),
-            Some(span) => numbers::number_at(&self.text[span.from..span.to], span.from + 1),
-        }
+        let span = self.needed_word()?;
+        numbers::number_at(&self.text[span.from..span.to], span.from + 1)
     }
 
     // The next word, as a hex word.
@@ -53,10 +51,8 @@ impl<'a> Reader<'a> {
         ensures value { result ≡ first_hex (end_of self.old) (ahead self.old) }
         ensures rest { Passed self.old self.new }
     {
-        match self.next_word() {
-            None => Err(self.missing()),
-            Some(span) => numbers::hex_at(&self.text[span.from..span.to], span.from + 1),
-        }
+        let span = self.needed_word()?;
+        numbers::hex_at(&self.text[span.from..span.to], span.from + 1)
     }
 
     // What was read, where no word is left behind it.

@@ -3,6 +3,7 @@ ghost use Rattle.std.specs.Prelude.{◌≡◌, ◌≤◌, length};
 ghost use Rattle.lines.specs.Words.{blank, leading, of_class};
 
 // What a byte can be: a blank, no blank, a digit, a hex digit, no `#`, no `=`.
+// Kept: a closure in place of a class would be no plainer, since its contract would say again what `of_class` of specs/Words.antt says.
 #[derive(Clone, Copy)]
 pub enum Class {
     Gap,
