@@ -2,16 +2,19 @@
 ghost use Rattle.std.specs.Prelude.{◌≡◌, true, ◌≤◌, ◌+◌, ◌*◌, length, take, drop};
 ghost use Rattle.model.specs.Bytes.{from_be, column};
 ghost use Rattle.model.specs.Exchange as model;
-ghost use Rattle.tables.specs.Contents.{contents, stored};
-ghost use Rattle.changes.specs.Left.{Left};
+ghost use Rattle.tables.specs.Contents.{stored};
+ghost use Rattle.changes.specs.Left.{Left, Made};
 ghost use Rattle.changes.specs.Kept.{GossipKept};
 ghost use Rattle.exchange.specs.Messages.{framed_b, Spoken};
 
-use changes::settling::{Changed, ChangedAnew};
+use changes::settling::ChangedAnew;
+use journal::kind::Kind;
 use journal::place::{COUNT_AT, CURR_AT, KIND_AT, PREV_AT, Place, STAMPS_AT};
 use journal::walk::GossipHead;
 use model::Answer;
-use tables::{Copied, CopyTable, Disk, Heads, PastTable, PendingTable, Snapshots, Store};
+use tables::Store;
+
+pub use crate::lent::hear;
 
 // The number of eight bytes, read as two of four: the compiler makes one load of it.
 fn word_at(bytes: &[u8], at: usize) -> u64
@@ -24,24 +27,14 @@ fn word_at(bytes: &[u8], at: usize) -> u64
 }
 
 // One whole record of kind 2 and nothing else, of at most sixteen stamps, whatever they are.
-fn framed(bytes: &[u8]) -> bool
+pub fn framed(bytes: &[u8]) -> bool
     ensures { result ≡ framed_b bytes.now }
 {
-    if bytes.len() < STAMPS_AT {
-        return false;
-    }
-    let length = fields::get_be(bytes, 0, 2) as usize;
-    if length != bytes.len() - 2 {
-        return false;
-    }
-    if bytes[KIND_AT] != 2 {
-        return false;
-    }
-    let count = bytes[COUNT_AT] as usize;
-    if 16 < count {
-        return false;
-    }
-    bytes.len() == STAMPS_AT + 8 * count
+    STAMPS_AT <= bytes.len()
+        && fields::get_be(bytes, 0, 2) as usize == bytes.len() - 2
+        && bytes[KIND_AT] == Kind::Gossip as u8
+        && bytes[COUNT_AT] <= 16
+        && bytes.len() == STAMPS_AT + 8 * (bytes[COUNT_AT] as usize)
 }
 
 // Stamps, one behind another.
@@ -49,16 +42,14 @@ fn read_stamps(bytes: &[u8], out: &mut [u64])
     requires { 20 + 8 * length out.old ≤ length bytes.now }
     ensures { out.new ≡ column 8 8 (length out.old) (drop 20 bytes.now) }
 {
-    let mut i: usize = 0;
-    while i < out.len() {
-        out[i] = word_at(bytes, STAMPS_AT + 8 * i);
-        i += 1;
+    for (i, stamp) in out.iter_mut().enumerate() {
+        *stamp = word_at(bytes, STAMPS_AT + 8 * i);
     }
 }
 
 // The head of a message that has a frame, and its stamps, unjudged, at the list's front. The two numbers are read last: before the loop the compiler would
 // load them byte by byte.
-fn read_message(bytes: &[u8], stamps: &mut [u64]) -> GossipHead
+pub fn read_message(bytes: &[u8], stamps: &mut [u64]) -> GossipHead
     requires { (framed_b bytes.now ≡ true) × (length stamps.old ≡ 16) }
     ensures { Spoken bytes.now result stamps.new }
 {
@@ -69,67 +60,35 @@ fn read_message(bytes: &[u8], stamps: &mut [u64]) -> GossipHead
     GossipHead { prev, curr, count }
 }
 
-// A refusal leaves heads and place as they were.
-fn refused(heads: Heads, answer: Answer, place: Place) -> Changed
-    ensures { result ≡ record { heads = heads; answer = answer; place = place } }
-{
-    Changed {
-        heads,
-        answer,
-        place,
-    }
-}
-
 // What the bytes tell is taken as gossip is, in the same order; bytes that are no message are refused before the journal's shape is asked.
-pub fn hear(
-    disk: &Disk,
-    dated: &Disk,
-    pending: &PendingTable,
-    past: &mut PastTable,
-    snapshots: &mut Snapshots,
-    copies: &CopyTable,
-    copied: &Copied,
-    h: Heads,
+fn heard(
+    store: &mut Store,
     journal: &mut [u8],
     used: Place,
     message: &[u8],
-) -> Changed
-    ensures { Left (model.hear (contents disk.now dated.now pending.now past.old snapshots.old copies.now copied.now h) journal.old used.at message.now) result.answer (contents disk.now dated.now pending.now past.new snapshots.new copies.now copied.now result.heads) journal.new result.place.at }
+) -> Result<Place, Answer>
+    ensures made { Made (model.hear (stored store.old) journal.old used.at message.now) result (stored store.new) journal.new used.at }
+    ensures kept { GossipKept store.old store.new }
 {
-    tables::laid(*disk, *dated, *pending, *past, *snapshots, *copies, *copied);
-    if damage::damaged(pending, past, snapshots, copies, h) {
-        return refused(h, Answer::Damaged, used);
+    if damage::damaged_anew(store) {
+        return Err(Answer::Damaged);
     }
     if !framed(message) {
-        return refused(h, Answer::Malformed(0), used);
+        return Err(Answer::Malformed(0));
     }
     let mut room = [0u64; 16];
     let head = read_message(message, &mut room);
-    let prev = head.prev;
-    let curr = head.curr;
-    let count = head.count;
-    let stamps = &room[..count];
-    if !rules::stamps_shaped(prev, curr, stamps) {
-        return refused(h, Answer::Malformed(0), used);
+    let stamps = &room[..head.count];
+    if !rules::stamps_shaped(head.prev, head.curr, stamps) {
+        return Err(Answer::Malformed(0));
     }
     if !changes::settling::journal_shaped(journal, used) {
-        return refused(h, Answer::Shape, used);
+        return Err(Answer::Shape);
     }
-    let verdict = gossips::judge_gossip(snapshots, h, prev, curr, stamps);
-    let answer = changes::settling::settled(verdict, journal, used, 18 + 8 * count);
-    if answer.code() != 0 {
-        return refused(h, answer, used);
-    }
-    let heads = gossips::apply_gossip(past, snapshots, copies, h, curr, stamps);
-    let place = used.append_gossip(journal, prev, curr, stamps);
-    Changed {
-        heads,
-        answer,
-        place,
-    }
+    changes::gossiping::take_anew(store, journal, used, head.prev, head.curr, stamps)
 }
 
-// What the bytes tell is taken as gossip is, in the same order; bytes that are no message are refused before the journal's shape is asked.
+// Takes the bytes of a message as gossip.
 pub fn hear_anew(
     store: &mut Store,
     journal: &mut [u8],
@@ -139,22 +98,5 @@ pub fn hear_anew(
     ensures left { Left (model.hear (stored store.old) journal.old used.at message.now) result.answer (stored store.new) journal.new result.place.at }
     ensures kept { GossipKept store.old store.new }
 {
-    let c = hear(
-        &store.written.disk,
-        &store.written.dated,
-        &store.written.pending,
-        &mut store.written.past,
-        &mut store.snapshots,
-        &store.copies,
-        &store.copied,
-        store.heads,
-        journal,
-        used,
-        message,
-    );
-    store.heads = c.heads;
-    ChangedAnew {
-        answer: c.answer,
-        place: c.place,
-    }
+    ChangedAnew::told(heard(store, journal, used, message), used)
 }

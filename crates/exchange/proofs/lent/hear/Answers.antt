@@ -27,8 +27,8 @@ use Rattle.changes.proofs.Rooms.{Taken, gossip_room}
 use Rattle.changes.proofs.Outcomes.{left_shape, Passed, left_refused, taken, left_done}
 use Rattle.exchange.specs.Messages.{framed_b}
 use Rattle.exchange.proofs.Messages.{deaf, unframed, unshaped, as_gossip}
-use Rattle.exchange.proofs.hearing.hear.Goals as goal
-use Rattle.exchange.proofs.hearing.hear.Goals.{Else-damaged, Else-not-framed, Else-not-stamps_shaped, Else-not-journal_shaped, After-settled-answer, Else-code-ne0}
+use Rattle.exchange.proofs.lent.hear.Goals as goal
+use Rattle.exchange.proofs.lent.hear.Goals.{Else-damaged, Else-not-framed, Else-not-stamps_shaped, Else-not-journal_shaped, After-settled-answer, Else-code-ne0}
 
 -- whole tables that are not damaged
 module _ {values dates : List ℕ} {pending past : List (List ℕ)} {snapshots : List ℕ} {copies : List (List ℕ)} {copied : List ℕ} (h : Heads)

@@ -4,8 +4,8 @@ use Rattle.model.specs.Store.{Store}
 use Rattle.model.specs.Damage.{damaged}
 use Rattle.tables.specs.Contents.{contents}
 use Rattle.exchange.proofs.Asked.{ask_damaged, ask_short, ask_behind, ask_done}
-use Rattle.exchange.proofs.asking.ask.Goals as goal
-use Rattle.exchange.proofs.asking.ask.Goals.{After-damaged, Else-damaged}
+use Rattle.exchange.proofs.lent.ask.Goals as goal
+use Rattle.exchange.proofs.lent.ask.Goals.{After-damaged, Else-damaged}
 
 abbrev held : After-damaged → Store
 held c =
