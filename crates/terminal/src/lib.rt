@@ -4,6 +4,8 @@
 pub mod hex;
 pub mod input;
 pub mod say;
+pub mod serve;
+pub mod start;
 pub mod under;
 pub mod words;
 
