@@ -27,6 +27,7 @@ fn leap(snapshots: &Snapshots, n: usize, time: u64) -> usize
     requires { n ≤ 64 }
     ensures { (result ≤ n) × (0 < result → get_or snapshots.now (result - 1) 0 ≤ time) }
 {
+    // Kept: `partition_point` took a tenth more instructions in 64 snapshots and a seventh more in 32; a range by steps would name its end twice.
     let mut k: usize = 0;
     while k + 8 <= n {
         if time < snapshots[k + 7] {
@@ -56,6 +57,7 @@ pub fn mark_of(t: &CopyTable, n: usize, page: u64) -> u64
     ensures { (words : List ℕ) → result ≡ mark (take n (copies_of (copy_heads t.now) words)) page }
 {
     let mut best: u64 = 0;
+    // Kept: no range, since each turn leaps to the page's next row.
     let mut i = trimmed_copies(t, n, page);
     while 0 < i {
         best = best.max(crate::copy_at(t, i - 1).stamp);
