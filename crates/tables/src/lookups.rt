@@ -1,6 +1,6 @@
 // The searches: each goes once over the rows of one table. Those that follow a definition by recursion on the rows go from
 // the last row to the first. The snapshots ascend, and the search in them leaps.
-ghost use Rattle.std.specs.Prelude.{◌≡◌, true, List, [], ℕ, ◌-◌, ◌≤◌, ◌<◌, length, take, get_or, eqb, ltb, leb};
+ghost use Rattle.std.specs.Prelude.{◌≡◌, true, false, List, [], ℕ, ◌-◌, ◌≤◌, ◌<◌, length, take, get_or, eqb, ltb, leb};
 ghost use Rattle.model.specs.Lists.{all_b, rising_from};
 ghost use Rattle.model.specs.Store.{mark, page_of, beyond_b, live_b};
 ghost use Rattle.model.specs.Reads.{largest};
@@ -82,17 +82,27 @@ pub fn marks_of(t: &CopyTable, n: usize, marks: &mut [u64; 32])
     }
 }
 
+// Of the first n rows, those up to the last that passes.
+fn up_to_last<F: Fn(usize) -> bool>(n: usize, passes: F) -> usize
+    requires { (i : ℕ) → i < n → F.pre passes i }
+    ensures inside { result ≤ n }
+    ensures last { 0 < result → F.post passes (result - 1) true }
+    ensures others { (i : ℕ) → result ≤ i → i < n → F.post passes i false }
+{
+    for i in (0..n).rev() {
+        if passes(i) {
+            return i + 1;
+        }
+    }
+    0
+}
+
 // Of the first n copies, those up to the page's last.
 fn trimmed_copies(t: &CopyTable, n: usize, page: u64) -> usize
     requires { n ≤ 128 }
     ensures { (result ≡ trimmed (λ c. eqb c.page page) (copy_head_of []) (copy_heads t.now) n) × (result ≤ n) }
 {
-    for i in (0..n).rev() {
-        if crate::copy_at(t, i).page == page {
-            return i + 1;
-        }
-    }
-    0
+    up_to_last(n, |i| crate::copy_at(t, i).page == page)
 }
 
 // Of the first n past rows, those up to the page's last.
@@ -100,12 +110,7 @@ pub fn trimmed_past(t: &PastTable, n: usize, page: u64) -> usize
     requires { n ≤ 256 }
     ensures { (result ≡ trimmed (λ q. eqb (page_of q.object) page) (past_of []) (pasts t.now) n) × (result ≤ n) }
 {
-    for i in (0..n).rev() {
-        if crate::past_at(t, i).object / 16 == page {
-            return i + 1;
-        }
-    }
-    0
+    up_to_last(n, |i| crate::past_at(t, i).object / 16 == page)
 }
 
 // The page's oldest copy with stamp >= s, the first row among equals: from the last row to the first, so that a row as old as
