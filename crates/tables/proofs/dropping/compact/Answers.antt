@@ -1,5 +1,5 @@
 -- One turn: the row is looked at, put at place k, and k goes on where it stays.
-use Rattle.std.proofs.Common.{◌≡◌, ℕ, ◌+◌, length, arith, sym, subst, ap, ◌∙◌}
+use Rattle.std.proofs.Common.{ℕ, ◌+◌, arith, sym, subst, ap, ◌∙◌}
 use Rattle.tables.specs.Compaction.{Compacted}
 use Rattle.tables.proofs.Compacts.{step, after_is}
 use Rattle.tables.proofs.dropping.compact.Goals as goal
