@@ -1,11 +1,13 @@
 -- What a test keeps of the rows ahead: after one row more, and at the end. And a row written behind those known.
-use Prim.Native.Nat.{ℕ, ◌+◌, ◌<◌, ◌≤◌}
-use mathlib.Core.Path.{◌≡◌}
+use Prim.Native.Nat.{ℕ, ◌+◌, ◌-◌, ◌<◌, ◌≤◌}
+use mathlib.Core.Path.{◌≡◌, ap, ◌∙◌}
 use mathlib.Core.Bool.{Bool, true, false}
-use mathlib.Core.List.{List, [], ◌∷◌, ◌++◌, append_assoc}
+use mathlib.Core.List.{List, [], ◌∷◌, ◌++◌}
 use native.Mathlib.Numerals.{add-one}
-use lib.ListN.{length, take, drop, get_or, set, drop_of_length-le}
-use lib.Seq.{drop-cons, take-suc-set}
+use lib.ListN.{length, take, drop, get_or, length-drop, drop_of_length-le}
+use lib.Seq.{drop-cons, take-length}
+use borrow.Rule.Slice.PartMut.{put_mid}
+use Rattle.std.proofs.lemmas.Slice.{take-put_mid}
 use Rattle.model.specs.Lists.{kept}
 
 module _ (f : ℕ → Bool) (l : List ℕ) (i : ℕ) (h : i < length l) where
@@ -18,6 +20,10 @@ module _ (f : ℕ → Bool) (l : List ℕ) (i : ℕ) (h : i < length l) where
 pub ahead_end : (f : ℕ → Bool) (l : List ℕ) (i : ℕ) → length l ≤ i → kept f (drop i l) ≡ []
 ahead_end f l i h = rw (drop_of_length-le l h)
 
--- the first of the rows ahead, written behind the k known
-pub written : (r l : List ℕ) (k i : ℕ) → k < length r → i < length l → take (k + 1) (set r k (get_or l i 0)) ++ drop (i + 1) l ≡ take k r ++ drop i l
-written r l k i h g = rw (add-one k, add-one i, take-suc-set r k (get_or l i 0) h, drop-cons l i 0 g, append_assoc)
+-- a list from a place on, as the code slices it
+pub rest : (l : List ℕ) (r : ℕ) → take (length l - r) (drop r l) ≡ drop r l
+rest l r = rw (← length-drop r l) (take-length (drop r l))
+
+-- the new ones behind those known
+pub behind : (known new now : List ℕ) (n k : ℕ) → now ≡ new → n ≤ length known → k ≡ n + length new → take k (put_mid n (k - n) known now) ≡ take n known ++ new
+behind known new now n k e l f = take-put_mid n (k - n) known now k (rw e f) l ∙ ap (λ x. take n known ++ x) e

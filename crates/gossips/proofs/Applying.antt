@@ -20,7 +20,7 @@ use Rattle.tables.proofs.Bridges.{kept_every}
 use Rattle.gossips.specs.Promises.{Ready, Added, Dropped, Applied}
 
 -- a test keeps at most all
-kept_most : {A : Type 0} (f : A → Bool) (l : List A) → length (kept f l) ≤ length l
+pub kept_most : {A : Type 0} (f : A → Bool) (l : List A) → length (kept f l) ≤ length l
 kept_most f [] = omega arith
 kept_most f (x ∷ xs) = let ih = kept_most f xs in by_test (f x) (λ e. rw e (omega arith)) (λ e. rw e (omega arith))
 

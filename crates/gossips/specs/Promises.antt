@@ -87,3 +87,22 @@ pub record LivesOn (store store' : Store) (horizon : ℕ) : Type 0 where
   pub live : (stored store').past ≡ kept (live_b horizon (stored store).snapshots (stored store).copies) (stored store).past
   pub count : store'.heads.past ≤ store.heads.past
   pub same : store' ≡ with_past store store'.written.past store'.heads.past
+
+-- a store with other snapshots, or another horizon
+abbrev pub with_snapshots : Store → List ℕ → ℕ → Store
+with_snapshots store snapshots n = record {
+  written = store.written;
+  snapshots = snapshots;
+  copies = store.copies;
+  copied = store.copied;
+  heads = record { pending = store.heads.pending; past = store.heads.past; snapshots = n; copies = store.heads.copies; horizon = store.heads.horizon; last = store.heads.last };
+}
+
+abbrev pub with_horizon : Store → ℕ → Store
+with_horizon store horizon = record {
+  written = store.written;
+  snapshots = store.snapshots;
+  copies = store.copies;
+  copied = store.copied;
+  heads = record { pending = store.heads.pending; past = store.heads.past; snapshots = store.heads.snapshots; copies = store.heads.copies; horizon = horizon; last = store.heads.last };
+}

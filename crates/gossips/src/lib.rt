@@ -200,6 +200,7 @@ fn rows(written: &Written)
 }
 
 // Dead past values go, those of every page, by a horizon.
+#[tactic(auto, using(tables::proofs::Rows::copies_length))]
 fn drop_past(store: &mut Store, horizon: u64)
     requires counted { Counted store.old.heads }
     requires pages_in { all_b (λ c. ltb c.page 32) (take store.old.heads.copies (copy_heads store.old.copies)) ≡ true }
@@ -215,7 +216,7 @@ fn drop_past(store: &mut Store, horizon: u64)
     store.heads.past = tables::dropping::drop_dead(
         &mut store.written.past,
         store.heads.past,
-        32,
+        None,
         horizon,
         &store.snapshots,
         store.heads.snapshots,
