@@ -7,7 +7,7 @@ use lib.ListN.{replicate}
 use Rattle.std.specs.Prelude.{Result, Ok}
 use Rattle.lines.specs.Mistakes.{wrong}
 use Rattle.lines.specs.declared.Mistake.{Mistake}
-use Rattle.lines.specs.Names.{spelt}
+use lib.Chars.{codes}
 use Rattle.lines.specs.Lines.{parsed}
 use Rattle.lines.specs.Hex.{hex_bytes}
 use Rattle.lines.specs.Orders.{ordered}
@@ -19,10 +19,10 @@ use Rattle.lines.specs.declared.orders.Order.{Order}
 use Rattle.lines.specs.declared.orders.Order.TheVariants as order
 
 abbrev Says : String → Result Call Mistake → Type 0
-Says line c = (parsed (spelt line)).call ≡ c
+Says line c = (parsed (codes line)).call ≡ c
 
 abbrev Lists : String → List ℕ → List ℕ → Type 0
-Lists line firsts seconds = ((parsed (spelt line)).firsts ≡ firsts) × ((parsed (spelt line)).seconds ≡ seconds)
+Lists line firsts seconds = ((parsed (codes line)).firsts ≡ firsts) × ((parsed (codes line)).seconds ≡ seconds)
 
 blank_lines : Says "" (Ok call.Blank) × Says "  \t# commit 1" (Ok call.Blank)
 unfolding parsed
@@ -65,7 +65,7 @@ unfolding parsed
 writes_wrong = (refl, refl, refl, refl, refl, refl)
 
 -- ---- hex words
-a_hear : Says " hear  00fF # three" (Ok (call.Hear 7 11)) × ((parsed (spelt " hear  00fF # three")).word ≡ spelt "00fF")
+a_hear : Says " hear  00fF # three" (Ok (call.Hear 7 11)) × ((parsed (codes " hear  00fF # three")).word ≡ codes "00fF")
 unfolding parsed
 a_hear = (refl, refl)
 
@@ -74,18 +74,18 @@ unfolding parsed
 hex_wrong = (refl, refl, refl, refl, refl)
 
 -- 1024 digits are read; 1025 are too many before they are odd, and a byte that is no digit comes before both
-a_thousand : ((parsed (spelt "hear " ++ replicate 1024 48)).call ≡ Ok (call.Hear 5 1029)) × ((parsed (spelt "hear " ++ replicate 1025 48)).call ≡ wrong Long 6)
-    × ((parsed (spelt "hear " ++ replicate 1025 48 ++ spelt "x")).call ≡ wrong Hex 1031)
+a_thousand : ((parsed (codes "hear " ++ replicate 1024 48)).call ≡ Ok (call.Hear 5 1029)) × ((parsed (codes "hear " ++ replicate 1025 48)).call ≡ wrong Long 6)
+    × ((parsed (codes "hear " ++ replicate 1025 48 ++ codes "x")).call ≡ wrong Hex 1031)
 unfolding parsed
 a_thousand = (refl, refl, refl)
 
-the_bytes : (hex_bytes (spelt "0009afAF") ≡ 0 ∷ 9 ∷ 175 ∷ 175 ∷ []) × (hex_bytes (spelt "1g2") ≡ 16 ∷ [])
+the_bytes : (hex_bytes (codes "0009afAF") ≡ 0 ∷ 9 ∷ 175 ∷ 175 ∷ []) × (hex_bytes (codes "1g2") ≡ 16 ∷ [])
 unfolding hex_bytes
 the_bytes = (refl, refl)
 
 -- ---- the coordinator's lines
 abbrev Orders : String → Result Order Mistake → Type 0
-Orders line o = (ordered (spelt line)).order ≡ o
+Orders line o = (ordered (codes line)).order ≡ o
 
 orders : Orders " # grant" (Ok order.Blank) × Orders "grant 7 255" (Ok (order.Grant 7 255)) × Orders "message 0 9" (Ok (order.Message 0 9)) × Orders "serve 0011" (Ok (order.Serve 6 10))
     × Orders "granted" (Ok order.Granted) × Orders "help" (Ok order.Help) × Orders "quit" (Ok order.Quit) × Orders "exit" (Ok order.Quit)

@@ -1,8 +1,8 @@
 -- "The command", the names of the calls, by how many numbers each takes; `hear` takes a hex word.
-use Rattle.std.specs.Prelude.{ℕ, List, [], ◌∷◌, Option, Some, None}
+use Rattle.std.specs.Prelude.{ℕ, List, Option, Some, None}
 use Rattle.std.specs.Str.{bytes_eq}
-use Prim.Native.Char.{code}
-use Prim.Native.String.{String, [] as none, ◌∷◌ as ◌then◌}
+use Prim.Native.String.{String}
+use lib.Chars.{codes}
 use Rattle.model.specs.Lists.{pick}
 use Rattle.lines.specs.declared.Topic.{Topic}
 use Rattle.lines.specs.declared.Topic.TheVariants as topic
@@ -12,14 +12,9 @@ use Rattle.lines.specs.declared.names.Bare.TheVariants as bare
 use Rattle.lines.specs.declared.names.Single.TheVariants as single
 use Rattle.lines.specs.declared.names.Double.TheVariants as double
 
--- the bytes of a name
-abbrev pub spelt : String → List ℕ
-spelt none = []
-spelt (c then s) = code c ∷ spelt s
-
 -- a word that is spelt so, or another
 abbrev pub spells : {A : Type 0} → List ℕ → String → A → Option A → Option A
-spells w s a other = pick (bytes_eq w (spelt s)) (Some a) other
+spells w s a other = pick (bytes_eq w (codes s)) (Some a) other
 
 -- what help is on
 abbrev pub topic_of : List ℕ → Option Topic

@@ -2,8 +2,8 @@
 use mathlib.Core.Path.{◌≡◌}
 use Rattle.std.proofs.Common.{rules}
 use Rattle.std.proofs.lemmas.Slice.Eq.{text_from_reads}
-use Rattle.lines.specs.Names.{spelt}
+use lib.Chars.{codes}
 use Rattle.lines.proofs.names.topic_of.Goals as goal
 
 pub returns-in-standing : goal.returns-in-standing
-returns-in-standing c = let e : c.args.word.now ≡ spelt "standing" = text_from_reads _ _ (search rules) (search rules) in rw e
+returns-in-standing c = let e : c.args.word.now ≡ codes "standing" = text_from_reads _ _ (search rules) (search rules) in rw e

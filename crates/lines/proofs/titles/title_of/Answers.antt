@@ -2,11 +2,11 @@
 use mathlib.Core.Path.{◌≡◌}
 use Rattle.std.proofs.Common.{rules}
 use Rattle.std.proofs.lemmas.Slice.Eq.{text_from_reads}
-use Rattle.lines.specs.Names.{spelt}
+use lib.Chars.{codes}
 use Rattle.lines.proofs.titles.title_of.Goals as goal
 
 pub returns-in-message : goal.returns-in-message
-returns-in-message c = let e : c.args.word.now ≡ spelt "message" = text_from_reads _ _ (search rules) (search rules) in rw e
+returns-in-message c = let e : c.args.word.now ≡ codes "message" = text_from_reads _ _ (search rules) (search rules) in rw e
 
 pub returns-in-granted : goal.returns-in-granted
-returns-in-granted c = let e : c.args.word.now ≡ spelt "granted" = text_from_reads _ _ (search rules) (search rules) in rw e
+returns-in-granted c = let e : c.args.word.now ≡ codes "granted" = text_from_reads _ _ (search rules) (search rules) in rw e
