@@ -41,7 +41,7 @@ fn curr_of(message: &[u8]) -> u64 {
 impl<'a> Keeper<'a> {
     pub fn new(path: &'a [u8], file: Option<File>) -> Keeper<'a> {
         Keeper {
-            store: Store::blank(),
+            store: Store::empty(),
             journal: [0; 65536],
             place: Place { at: 0 },
             path,

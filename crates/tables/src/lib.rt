@@ -64,6 +64,33 @@ pub struct Store {
     pub heads: Heads,
 }
 
+impl Store {
+    // A store without a row.
+    pub fn empty() -> Store
+        ensures { stored result ≡ fresh }
+    {
+        Store {
+            written: Written {
+                disk: [0; 512],
+                dated: [0; 512],
+                pending: [[0; 4]; 128],
+                past: [[0; 4]; 256],
+            },
+            snapshots: [0; 64],
+            copies: [[0; 2]; 128],
+            copied: [0; 2048],
+            heads: Heads {
+                pending: 0,
+                past: 0,
+                snapshots: 0,
+                copies: 0,
+                horizon: 0,
+                last: 0,
+            },
+        }
+    }
+}
+
 #[derive(Clone, Copy)]
 pub struct CopyHead {
     pub page: u64,
