@@ -7,7 +7,7 @@ use files::file::NotRenewed;
 use files::{file, paths, room};
 use journal::place::Place;
 use lines::{Call, Listed};
-use model::{Answer, Figures};
+use model::{Answer, NO_FIGURES};
 use restart::StartedAnew;
 use std::fs::File;
 use tables::Store;

@@ -40,6 +40,15 @@ pub struct Figures {
     pub lag: i64,
 }
 
+// What a damaged store reports.
+pub const NO_FIGURES: Figures = Figures {
+    pending: 0,
+    past: 0,
+    snapshots: 0,
+    copies: 0,
+    lag: 0,
+};
+
 // What a call answers: a case for each code, with the number where the code has one.
 #[derive(Clone, Copy)]
 pub enum Answer {

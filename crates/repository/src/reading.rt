@@ -4,7 +4,7 @@ ghost use Rattle.tables.specs.Contents.{stored};
 ghost use Rattle.repository.specs.Faces.{Shown, Stood, Knew};
 
 use crate::{Knowledge, Reply, Report, Store};
-use model::{Answer, Figures};
+use model::{Answer, Figures, NO_FIGURES};
 
 // The page as of the largest known snapshot at or before a time.
 #[unsafe(no_mangle)]
@@ -61,16 +61,7 @@ pub extern "C" fn jibcradle_standing(store: &Store) -> Report
 {
     match reads::standing_anew(store) {
         Some(figures) => report(Answer::Done(0), figures),
-        None => report(
-            Answer::Damaged,
-            Figures {
-                pending: 0,
-                past: 0,
-                snapshots: 0,
-                copies: 0,
-                lag: 0,
-            },
-        ),
+        None => report(Answer::Damaged, NO_FIGURES),
     }
 }
 

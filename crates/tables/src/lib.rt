@@ -6,7 +6,8 @@ pub mod lookups;
 
 ghost use Rattle.std.specs.Prelude.{◌≡◌, ◌<◌, set};
 ghost use Rattle.tables.specs.Rows.{pendings, pasts, copy_heads, pending_at, past_at, copy_head_at, touched};
-ghost use Rattle.tables.specs.Contents.{Laid};
+ghost use Rattle.model.specs.Store.{fresh};
+ghost use Rattle.tables.specs.Contents.{Laid, stored};
 
 use model::{Past, Pending};
 
