@@ -1,2 +1,3 @@
 pub mod Promises
 pub mod Parts
+pub mod LentParts

@@ -8,7 +8,7 @@ use Rattle.model.specs.Store.{Store}
 use Rattle.shares.proofs.Orders.{rising_at, part_ordered, first_inside, first_behind}
 use Rattle.flushes.specs.Parts.{seen_in, due_seen, dues_seen}
 use Rattle.flushes.proofs.Listing.{none_due, dues_to_last, due_seen_lem, next_none, list_yes, list_no, list_end}
-use Rattle.flushes.proofs.Holdings.{lookable}
+use Rattle.flushes.proofs.Holdings.{looks, sized}
 use Rattle.flushes.proofs.dues.list_dues.Goals as goal
 use Rattle.flushes.proofs.dues.list_dues.Goals.{After-some_beyond}
 

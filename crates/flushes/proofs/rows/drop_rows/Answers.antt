@@ -13,10 +13,6 @@ returns-then-staying-n c = let a = c.args in
     let m = pasts_length a.past.now 256 (search rules) in
     all_stay a.snapshots.now a.rule (omega arith) c.requires.staying_value c.if-staying-n.true
 
-pub drop_dead-requires : goal.drop_dead-requires
-drop_dead-requires c = let r = c.requires.n_bound.1 in
-    (c.requires.n_bound.0, pasts_length _ _ (search rules), r.known_count, search rules, search rules, r.rising)
-
 pub returns : goal.returns
 returns c = let a = c.args in
     let r = a.rule in

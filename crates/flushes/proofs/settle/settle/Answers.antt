@@ -6,10 +6,10 @@ use lib.ListN.{length, length-set}
 use lib.Seq.{length-take-le}
 use Rattle.std.proofs.Common.{rules}
 use Rattle.model.specs.Changes.{of_page}
-use Rattle.tables.proofs.Keeping.{keep_yes, keep_no, keep_end}
+use Rattle.tables.proofs.Keeping.{keep_yes}
 use Rattle.tables.proofs.Rows.{pendings_length}
 use Rattle.tables.specs.Rows.{pendings}
-use Rattle.flushes.proofs.Settling.{store_yes, store_no, store_end}
+use Rattle.flushes.proofs.Settling.{store_yes, store_no, store_end, pass_by, kept_end}
 use Rattle.flushes.proofs.settle.settle.Invariants.{off}
 use Rattle.flushes.proofs.settle.settle.Goals as goal
 use Rattle.flushes.proofs.settle.settle.Goals.{then-of_page, else-of_page}
@@ -31,7 +31,7 @@ loop-i-preserved c =
             omega arith,
             v.invariant.1,
             v.invariant.2,
-            keep_no (off a.page) P v.k v.i a.n _ v.invariant.0 h (omega arith) (ap not (ap (of_page a.page) (sym p) ∙ e)) ∙ v.invariant.3,
+            pass_by (off a.page) P a.n v.i v.k v.invariant.3 _ h (omega arith) (ap not (ap (of_page a.page) (sym p) ∙ e)),
             store_yes a.page (λ e. e.value) P a.n v.i v.w.disk v.invariant.4 _ h (omega arith) p e,
             store_yes a.page (λ e. e.latest) P a.n v.i v.w.dated v.invariant.5 _ h (omega arith) p e,
           )
@@ -58,7 +58,7 @@ returns c =
     record {
       values = store_end a.page (λ e. e.value) P a.n v.i v.w.disk v.invariant.4 h;
       stamps = store_end a.page (λ e. e.latest) P a.n v.i v.w.dated v.invariant.5 h;
-      left = (keep_end (off a.page) P v.k v.i a.n h (omega arith) v.invariant.3).0;
+      left = kept_end (off a.page) P a.n v.i v.k v.invariant.3 h (omega arith);
       fewer = omega (arith, length-take-le a.n (pendings a.w.now.pending));
       past = v.invariant.2;
     }
