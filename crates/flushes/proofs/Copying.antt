@@ -8,25 +8,21 @@ use lib.Seq.{drop-drop, length-take-le, take-append-le, drop-append-le}
 use Rattle.model.specs.Store.{Copy}
 use Rattle.tables.specs.declared.CopyHead.{CopyHead}
 use Rattle.tables.specs.Rows.{copies_of}
-use Rattle.tables.proofs.Searches.{drop_end}
 use Rattle.shares.specs.Many.{Pages}
 use Rattle.flushes.specs.Parts.{head_of}
-use Rattle.flushes.proofs.Turns.{next_row, push, all_added}
+use Rattle.flushes.proofs.Turns.{next, push}
 
 -- ---- one for each of a list, behind k others: those put, with those ahead, are W
-module _ {A : Type 0} (c : ℕ → A) (due : List ℕ) (n : ℕ) (rows : List A) (k : ℕ) where
-  pub put_start : take (k + 0) rows ++ map c (take n due) ≡ take k rows ++ map c (take n due)
+module _ {A : Type 0} (c : ℕ → A) (due : List ℕ) (rows : List A) (k : ℕ) where
+  pub put_start : take (k + 0) rows ++ map c due ≡ take k rows ++ map c due
   put_start = let z : k + 0 ≡ k = omega arith in rw z
 
-  module _ (i : ℕ) {W : List A} (v : take (k + i) rows ++ map c (drop i (take n due)) ≡ W) where
-    pub put_more : i < n → n ≤ length due → k + i < length rows → {rows' : List A} → rows' ≡ set rows (k + i) (c (get_or due i 0))
-        → take (k + (i + 1)) rows' ++ map c (drop (i + 1) (take n due)) ≡ W
-    put_more h l r q =
+  module _ (i : ℕ) {W : List A} (v : take (k + i) rows ++ map c (drop i due) ≡ W) where
+    pub put_more : i < length due → k + i < length rows → {rows' : List A} → rows' ≡ set rows (k + i) (c (get_or due i 0))
+        → take (k + (i + 1)) rows' ++ map c (drop (i + 1) due) ≡ W
+    put_more h r q =
         let m : k + (i + 1) ≡ k + i + 1 = omega arith in
-        rw (m, q) (push rows (k + i) (c (get_or due i 0)) (map c (drop (i + 1) (take n due))) r ∙ (rw (next_row due n i 0 h l) at v))
-
-    pub put_end : n ≡ i → k + i ≤ length rows → take (k + n) rows ≡ W
-    put_end h r = rw h (all_added rows (k + i) r (rw (drop_end n due i (omega arith)) at v)).0
+        rw (m, q) (push rows (k + i) (c (get_or due i 0)) (map c (drop (i + 1) due)) r ∙ (rw (next due i 0 h) at v))
 
 -- ---- the copies that heads and words make
 copies_first : (k : ℕ) (hs : List CopyHead) (words : List ℕ) → take k (copies_of hs words) ≡ copies_of (take k hs) words

@@ -2,16 +2,16 @@
 use Prim.Native.Nat.{ℕ, suc, ◌+◌, ◌≤◌, ◌<◌}
 use mathlib.Core.Path.{◌≡◌, ap, sym, ◌∙◌}
 use mathlib.Core.Bool.{Bool, true, false}
-use mathlib.Core.List.{List, ◌∷◌}
+use mathlib.Core.List.{List, ◌∷◌, ◌++◌}
 use native.Mathlib.Numerals.{add-one}
 use native.Mathlib.Omega.{arith}
 use lib.ListN.{length, take, drop, get_or, set}
 use lib.Seq.{take-set-lt, drop-set-lt}
 use Rattle.model.specs.declared.Pending.{Pending}
-use Rattle.model.specs.Lists.{pick}
+use Rattle.model.specs.Lists.{pick, kept}
 use Rattle.model.specs.Changes.{of_page, stored}
 use Rattle.tables.proofs.Searches.{drop_end}
-use Rattle.flushes.proofs.Turns.{next_row}
+use Rattle.flushes.proofs.Turns.{next_row, all_added}
 
 -- a row that is kept is put before those ahead
 pub rest_set : {A : Type 0} (l : List A) (k i n : ℕ) (x : A) → k ≤ i → i < n → drop (i + 1) (take n (set l k x)) ≡ drop (i + 1) (take n l)
@@ -36,3 +36,11 @@ module _ (p : ℕ) (f : Pending → ℕ) (P : List Pending) (n i : ℕ) (d : Lis
 
   pub store_end : n ≤ i → d ≡ W
   store_end h = rw (drop_end n P i h) at v
+
+-- ---- k entries are kept before entry i, with those ahead W
+module _ {A : Type 0} (f : A → Bool) (P : List A) (n i k : ℕ) {W : List A} (v : take k P ++ kept f (drop i (take n P)) ≡ W) where
+  pub pass_by : (d : A) → i < n → n ≤ length P → f (get_or P i d) ≡ false → take k P ++ kept f (drop (i + 1) (take n P)) ≡ W
+  pass_by d h m e = rw (next_row P n i d h m, e) at v
+
+  pub kept_end : n ≤ i → k ≤ length P → take k P ≡ W
+  kept_end h l = (all_added P k l (rw (drop_end n P i h) at v)).0

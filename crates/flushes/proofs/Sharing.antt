@@ -5,7 +5,7 @@ use mathlib.Core.Bool.{Bool, true, false}
 use mathlib.Core.List.{List, [], ◌∷◌}
 use native.Mathlib.Omega.{arith}
 use lib.ListN.{length, take}
-use lib.Seq.{take_all, length-take-le}
+use lib.Seq.{length-take-le}
 use Rattle.model.specs.declared.Pending.{Pending}
 use Rattle.model.specs.declared.Past.{Past}
 use Rattle.model.specs.Lists.{kept}
@@ -13,9 +13,9 @@ use Rattle.model.specs.Changes.{of_page}
 use Rattle.tables.specs.Rows.{pasts}
 use Rattle.tables.proofs.Cases.{by_test}
 use Rattle.tables.proofs.Searches.{both_left}
-use Rattle.shares.specs.Shares.{row_of_page, Numbered}
-use Rattle.shares.proofs.Numbers.{numbered_count}
-use Rattle.flushes.specs.declared.Rule.{Rule}
+use Rattle.shares.specs.Shares.{row_of_page, rows_at, NumberedAnew}
+use Rattle.shares.proofs.Numbers.{numbered_count_anew}
+use Rattle.flushes.specs.declared.rows.Rule.{Rule}
 use Rattle.flushes.specs.Parts.{stays_under, leaves_under, Holding}
 
 module _ {A : Type 0} (f : A → Bool) where
@@ -53,40 +53,31 @@ module _ (snapshots : List ℕ) (rule : Rule) where
   other_stays q e = rw e
 
   -- those of other pages, and those of the page that stay
-  pub staying_start : {d : Past} {l : List Past} {n : ℕ} {ns : List ℕ} {k : ℕ} → Numbered d (row_of_page rule.page) l n ns k → n ≤ length l
-      → n - k + length (kept (stays_under snapshots rule) (take k (kept (row_of_page rule.page) (take n l)))) ≡ length (kept (stays_under snapshots rule) (take n l))
-  staying_start {d} {l} {n} {ns} {k} a h =
-      let own = kept (row_of_page rule.page) (take n l) in
-      let c = numbered_count a in
-      rw (take_all k own (omega arith))
-      (omega (arith, others_kept (stays_under snapshots rule) (row_of_page rule.page) other_stays (take n l), length-take-le n l h, kept_fewer (row_of_page rule.page) (take n l)))
+  pub staying_start : {d : Past} {l : List Past} {n : ℕ} {ns : List ℕ} → NumberedAnew d (row_of_page rule.page) l n ns → n ≤ length l
+      → n - length ns + length (kept (stays_under snapshots rule) (rows_at d l ns)) ≡ length (kept (stays_under snapshots rule) (take n l))
+  staying_start {d} {l} {n} {ns} a h =
+      rw a.rows
+      (omega (arith, numbered_count_anew a, others_kept (stays_under snapshots rule) (row_of_page rule.page) other_stays (take n l), length-take-le n l h, kept_fewer (row_of_page rule.page) (take n l)))
 
-  pub all_stay : {past : List (List ℕ)} {n r : ℕ} → n ≤ 256 → length (pasts past) ≡ 256 → r ≡ length (kept (stays_under snapshots rule) (take n (pasts past))) → r ≡ n
+  pub all_stay : {past : List (List ℕ)} {n r : ℕ} → n ≤ length (pasts past) → r ≡ length (kept (stays_under snapshots rule) (take n (pasts past))) → r ≡ n
       → Holding past n (kept (stays_under snapshots rule) (take n (pasts past)))
-  all_stay {past} {n} {r} b m e z =
-      let l = length-take-le n (pasts past) (omega arith) in
-      let q = kept_all (stays_under snapshots rule) (take n (pasts past)) (sym e ∙ z ∙ sym l) in
-      record { rows = sym q; count = sym z ∙ e; past_rows = m }
+  all_stay {past} {n} {r} b e z =
+      let q = kept_all (stays_under snapshots rule) (take n (pasts past)) (sym e ∙ z ∙ sym (length-take-le n (pasts past) b)) in
+      record { rows = sym q; count = sym z ∙ e }
 
 -- ---- entries
 module _ (disk dated snapshots : List ℕ) (rule : Rule) where
   leaver_there : (e : Pending) → leaves_under disk dated snapshots rule e ≡ true → of_page rule.page e ≡ true
   leaver_there e t = both_left (of_page rule.page e) _ t
 
-  pub leaving_start : {d : Pending} {l : List Pending} {n : ℕ} {ns : List ℕ} {k : ℕ} → Numbered d (of_page rule.page) l n ns k
-      → kept (leaves_under disk dated snapshots rule) (take k (kept (of_page rule.page) (take n l))) ≡ kept (leaves_under disk dated snapshots rule) (take n l)
-  leaving_start {d} {l} {n} {ns} {k} a =
-      ap (kept (leaves_under disk dated snapshots rule)) (take_all k (kept (of_page rule.page) (take n l)) (omega (arith, numbered_count a)))
+  pub leaving_start : {d : Pending} {l : List Pending} {n : ℕ} {ns : List ℕ} → NumberedAnew d (of_page rule.page) l n ns
+      → kept (leaves_under disk dated snapshots rule) (rows_at d l ns) ≡ kept (leaves_under disk dated snapshots rule) (take n l)
+  leaving_start {d} {l} {n} {ns} a =
+      ap (kept (leaves_under disk dated snapshots rule)) a.rows
       ∙ kept_again (leaves_under disk dated snapshots rule) (of_page rule.page) leaver_there (take n l)
 
   -- no more than there are entries of the page
-  pub leaving_few : {d : Pending} {l : List Pending} {n : ℕ} {ns : List ℕ} {k : ℕ} → Numbered d (of_page rule.page) l n ns k
-      → length (kept (leaves_under disk dated snapshots rule) (take n l)) ≤ k
-  leaving_few {d} {l} {n} {ns} {k} a =
-      let own = kept (of_page rule.page) (take n l) in
-      omega (
-        arith,
-        numbered_count a,
-        ap length (kept_again (leaves_under disk dated snapshots rule) (of_page rule.page) leaver_there (take n l)),
-        kept_fewer (leaves_under disk dated snapshots rule) own,
-      )
+  pub leaving_few : {d : Pending} {l : List Pending} {n : ℕ} {ns : List ℕ} → NumberedAnew d (of_page rule.page) l n ns
+      → length (kept (leaves_under disk dated snapshots rule) (take n l)) ≤ length ns
+  leaving_few {d} {l} {n} {ns} a =
+      omega (arith, numbered_count_anew a, ap length a.rows, ap length (leaving_start a), kept_fewer (leaves_under disk dated snapshots rule) (rows_at d l ns))

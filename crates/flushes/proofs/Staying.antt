@@ -59,11 +59,11 @@ module _ (p m h : ℕ) (known : List ℕ) where
 
   -- a compaction by marks that hold the page's
   pub drop_held : (zeros : List ℕ) → p < length zeros → p < 32 → {past : List (List ℕ)} {r : ℕ} (qs : List Past)
-      → (take r (pasts past) ≡ kept (stays_by (Some p) h known (set zeros p m)) qs) × (r ≡ length (kept (stays_by (Some p) h known (set zeros p m)) qs)) × (length (pasts past) ≡ 256)
+      → take r (pasts past) ≡ kept (stays_by (Some p) h known (set zeros p m)) qs → r ≡ length (kept (stays_by (Some p) h known (set zeros p m)) qs)
       → Holding past r (kept (stays_at p m h known) qs)
-  drop_held zeros b l qs e =
+  drop_held zeros b l qs e f =
       let k = kept_marks (set zeros p m) l (get_or-set_same zeros p m 0 b) qs in
-      record { rows = e.0 ∙ k; count = e.1 ∙ ap length k; past_rows = e.2 }
+      record { rows = e ∙ k; count = f ∙ ap length k }
 
   by_copies : (cs : List Copy) → m ≡ mark cs p → (q : Past) → stays_b h known cs p q ≡ stays_at p m h known q
   by_copies cs g q =

@@ -1,17 +1,21 @@
 -- A loop from the first row to the last: the next row, a row put behind others, rows counted and rows added; and a filter of mapped ones.
-use Prim.Native.Nat.{ℕ, ◌+◌, ◌≤◌, ◌<◌}
+use Prim.Native.Nat.{ℕ, suc, ◌+◌, ◌≤◌, ◌<◌}
 use mathlib.Core.Path.{◌≡◌, refl, ap, sym, ◌∙◌}
 use mathlib.Core.Bool.{Bool, true, false}
 use mathlib.Core.List.{List, [], ◌∷◌, ◌++◌, map, append_assoc, append-nil}
 use native.Mathlib.Numerals.{add-one}
 use native.Mathlib.Omega.{arith}
-use lib.ListN.{length, take, drop, get_or, set, length-append}
-use lib.Seq.{slice-cons, take-suc-set, length-take-le}
+use lib.ListN.{drop_of_length-le, length, take, drop, get_or, set, length-append}
+use lib.Seq.{drop-cons, slice-cons, take-suc-set, length-take-le}
 use Rattle.model.specs.Lists.{both, kept}
+use Rattle.shares.specs.Shares.{rows_at}
+use Rattle.shares.proofs.Numbers.{rows_next}
 use Rattle.tables.proofs.Cases.{by_test}
-use Rattle.tables.proofs.Searches.{drop_end}
 
 module _ {A : Type 0} where
+  pub next : (l : List A) (i : ℕ) (d : A) → i < length l → drop i l ≡ get_or l i d ∷ drop (i + 1) l
+  next l i d h = rw (add-one, drop-cons l i d)
+
   pub next_row : (l : List A) (n i : ℕ) (d : A) → i < n → n ≤ length l → drop i (take n l) ≡ get_or l i d ∷ drop (i + 1) (take n l)
   next_row l n i d h k = rw (add-one, slice-cons i n l d)
 
@@ -31,32 +35,29 @@ kept_mapped f g b (x ∷ xs) =
     let ih = kept_mapped f g b xs in
     by_test (g x) (λ e. by_test (f (b x)) (λ q. rw (e, q, ih)) (λ q. rw (e, q, ih))) (λ e. rw (e, ih))
 
--- ---- k rows counted before row i, t of all
-module _ {A : Type 0} (f : A → Bool) (l : List A) (n i k : ℕ) {t : ℕ} (v : k + length (kept f (drop i (take n l))) ≡ t) where
-  module _ (d : A) (h : i < n) (m : n ≤ length l) {x : A} (p : x ≡ get_or l i d) where
-    pub count_yes : f x ≡ true → k + 1 + length (kept f (drop (i + 1) (take n l))) ≡ t
-    count_yes e = let w = rw (next_row l n i d h m, ← p, e) at v in omega arith
+-- ---- k counted before the number at i, t of all
+module _ {A : Type 0} (d : A) (f : A → Bool) (l : List A) (ns : List ℕ) (i k : ℕ) {t : ℕ} (v : k + length (kept f (rows_at d l (drop i ns))) ≡ t)
+    (h : i < length ns) {x : A} (p : x ≡ get_or l (get_or ns i 0) d) where
+  pub count_yes : f x ≡ true → k + 1 + length (kept f (rows_at d l (drop (i + 1) ns))) ≡ t
+  count_yes e = let w = rw (rows_next d l ns i h, ← p, e) at v in omega arith
 
-    pub count_no : f x ≡ false → k + length (kept f (drop (i + 1) (take n l))) ≡ t
-    count_no e = rw (next_row l n i d h m, ← p, e) at v
+  pub count_no : f x ≡ false → k + length (kept f (rows_at d l (drop (i + 1) ns))) ≡ t
+  count_no e = rw (rows_next d l ns i h, ← p, e) at v
 
-  pub count_end : n ≤ i → k ≡ t
-  count_end h = let w = rw (drop_end n l i h) at v in omega arith
-
--- ---- k rows of Q, with those that b makes of the rows of P ahead, are W
-module _ {A B : Type 0} (f : A → Bool) (b : A → B) (P : List A) (n i : ℕ) (Q : List B) (k : ℕ) {W : List B} (v : take k Q ++ map b (kept f (drop i (take n P))) ≡ W) where
-  module _ (d : A) (h : i < n) (m : n ≤ length P) {x : A} (p : x ≡ get_or P i d) where
+-- ---- k rows of Q, with those that b makes of the rows that the numbers ahead name, are W
+module _ {A B : Type 0} (d : A) (f : A → Bool) (b : A → B) (P : List A) (ns : List ℕ) (i : ℕ) (Q : List B) (k : ℕ) {W : List B} (v : take k Q ++ map b (kept f (rows_at d P (drop i ns))) ≡ W) where
+  module _ (h : i < length ns) {x : A} (p : x ≡ get_or P (get_or ns i 0) d) where
     pub add_room : f x ≡ true → k ≤ length Q → length W ≤ length Q → k < length Q
     add_room e l w =
-        let r = rw (next_row P n i d h m, ← p, e) at v in
+        let r = rw (rows_next d P ns i h, ← p, e) at v in
         omega (arith, length-take-le k Q l, simp length-append at (ap length r))
 
-    pub add_yes : f x ≡ true → k < length Q → {y : B} {R : List B} → y ≡ b x → R ≡ set Q k y → take (k + 1) R ++ map b (kept f (drop (i + 1) (take n P))) ≡ W
+    pub add_yes : f x ≡ true → k < length Q → {y : B} {R : List B} → y ≡ b x → R ≡ set Q k y → take (k + 1) R ++ map b (kept f (rows_at d P (drop (i + 1) ns))) ≡ W
     add_yes e l z r =
-        rw (r, z) (push Q k (b x) (map b (kept f (drop (i + 1) (take n P)))) l ∙ (rw (next_row P n i d h m, ← p, e) at v))
+        rw (r, z) (push Q k (b x) (map b (kept f (rows_at d P (drop (i + 1) ns)))) l ∙ (rw (rows_next d P ns i h, ← p, e) at v))
 
-    pub add_no : f x ≡ false → take k Q ++ map b (kept f (drop (i + 1) (take n P))) ≡ W
-    add_no e = rw (next_row P n i d h m, ← p, e) at v
+    pub add_no : f x ≡ false → take k Q ++ map b (kept f (rows_at d P (drop (i + 1) ns))) ≡ W
+    add_no e = rw (rows_next d P ns i h, ← p, e) at v
 
-  pub add_end : n ≤ i → k ≤ length Q → (take k Q ≡ W) × (k ≡ length W)
-  add_end h l = all_added Q k l (rw (drop_end n P i h) at v)
+  pub add_end : length ns ≤ i → k ≤ length Q → (take k Q ≡ W) × (k ≡ length W)
+  add_end h l = all_added Q k l (rw (drop_of_length-le ns h) at v)

@@ -1,34 +1,40 @@
--- What the functions below the judge and the writer of a flush compute from the lent tables.
-use Rattle.std.specs.Prelude.{ℕ, ◌+◌, ◌-◌, ◌*◌, ◌≤◌, ◌<◌, max, ◌≡◌, Bool, true, not, List, [], ◌∷◌, ◌++◌, map, length, take, drop, get_or, ltb, eqb}
+-- What the functions below the judge and the writer of a flush compute from the store's tables.
+use Rattle.std.specs.Prelude.{ℕ, Option, Some, None, ◌+◌, ◌-◌, ◌*◌, ◌≤◌, ◌<◌, max, ◌≡◌, Bool, true, not, List, [], ◌∷◌, ◌++◌, map, length, take, drop, get_or, ltb, eqb}
 use Rattle.model.specs.declared.Pending.{Pending}
 use Rattle.model.specs.declared.Past.{Past}
 use Rattle.model.specs.declared.Answer.TheVariants.{PastFull, ArchiveFull}
 use Rattle.model.specs.declared.Verdict.{Verdict}
 use Rattle.model.specs.declared.Verdict.TheVariants.{Accepted, Idle, Refused}
 use Rattle.model.specs.Limits.{most_past, most_copies}
-use Rattle.model.specs.Lists.{both, either, pick, any_b, kept, empty_b, rising_from}
+use Rattle.model.specs.Lists.{both, either, pick, any_b, kept, rising_from}
 use Rattle.model.specs.Store.{Store, Copy, page16, some_slot, object_at, page_of, beyond_b, look}
 use Rattle.model.specs.Changes.{of_page, stored}
 use Rattle.tables.specs.declared.CopyHead.{CopyHead}
 use Rattle.tables.specs.declared.Heads.{Heads}
+use Rattle.tables.specs.declared.Written.{Written}
 use Rattle.tables.specs.Rows.{pendings, pasts}
 use Rattle.tables.specs.Contents.{contents}
 use Rattle.tables.specs.Lookups.{wanted_b}
-use Rattle.views.specs.declared.View.{View}
-use Rattle.views.specs.Views.{viewed}
-use Rattle.flushes.specs.declared.Rule.{Rule}
+use Rattle.views.specs.declared.ViewAnew.{ViewAnew}
+use Rattle.views.specs.declared.Word.TheVariants.{Age}
+use Rattle.views.specs.Views.{viewed_anew}
+use Rattle.flushes.specs.declared.rows.Rule.{Rule}
 
 -- what a look at a page needs of the store
-abbrev pub seen_in : List ℕ → List ℕ → List (List ℕ) → List (List ℕ) → Heads → Store
-seen_in disk dated pending past h = contents disk dated pending past [] [] [] h
+abbrev pub seen_in : Written → Heads → Store
+seen_in w h = contents w.disk w.dated w.pending w.past [] [] [] h
 
 -- ---- due snapshots, by a mark
 -- the writing stamps as of the next known snapshot, the first of those behind one; current where there is none
-abbrev pub next_view : ℕ → List ℕ → View
-next_view p ns = record { page = p; current = empty_b ns; stamp = get_or ns 0 0; ages = true }
+abbrev pub first_of : List ℕ → Option ℕ
+first_of [] = None
+first_of (n ∷ ns) = Some n
+
+abbrev pub next_view : ℕ → List ℕ → ViewAnew
+next_view p ns = record { page = p; as_of = first_of ns; word = Age }
 
 abbrev pub due_seen : Store → ℕ → ℕ → ℕ → List ℕ → Bool
-due_seen st p m s ns = both (ltb m s) (some_slot (λ k. ltb s (viewed st (next_view p ns) (object_at p k))))
+due_seen st p m s ns = both (ltb m s) (some_slot (λ k. ltb s (viewed_anew st (next_view p ns) (object_at p k))))
 
 abbrev pub dues_seen : Store → ℕ → ℕ → List ℕ → List ℕ
 dues_seen st p m [] = []
@@ -53,7 +59,6 @@ abbrev pub rule_of : Heads → ℕ → ℕ → Rule
 rule_of h p m = record { page = p; mark = m; horizon = h.horizon; known = h.snapshots }
 
 pub record Ruled (snapshots : List ℕ) (rule : Rule) : Type 0 where
-  pub snapshot_words : length snapshots ≡ 64
   pub known_count : rule.known ≤ 64
   pub in_range : rule.page < 32
   pub rising : rising_from 0 (take rule.known snapshots) ≡ true
@@ -80,7 +85,6 @@ graves disk dated snapshots rule es = map (buried_in disk dated) (kept (leaves_u
 pub record Holding (past : List (List ℕ)) (n : ℕ) (qs : List Past) : Type 0 where
   pub rows : take n (pasts past) ≡ qs
   pub count : n ≡ length qs
-  pub past_rows : length (pasts past) ≡ 256
 
 -- ---- the verdict, by the page's entries, the due snapshots, the copies, and the past rows that there would be
 abbrev pub verdict_by : ℕ → ℕ → ℕ → ℕ → Verdict
@@ -94,16 +98,13 @@ verdict_by entries dues copies rows =
 abbrev pub head_of : ℕ → ℕ → CopyHead
 head_of p s = record { page = p; stamp = s }
 
-abbrev pub copy_in : List ℕ → List ℕ → List (List ℕ) → List (List ℕ) → Heads → ℕ → ℕ → Copy
-copy_in disk dated pending past h p s =
-    record { page = p; stamp = s; values = page16 (λ k. (look (seen_in disk dated pending past h) (object_at p k) s).value) }
+abbrev pub copy_in : Written → Heads → ℕ → ℕ → Copy
+copy_in w h p s = record { page = p; stamp = s; values = page16 (λ k. (look (seen_in w h) (object_at p k) s).value) }
 
 -- ---- the page's entries go to disk, the others stay
-pub record Settled (page : ℕ) (es : List Pending) (disk₀ dated₀ disk dated : List ℕ) (pending : List (List ℕ)) (n : ℕ) : Type 0 where
-  pub values : disk ≡ stored page (λ e. e.value) es disk₀
-  pub stamps : dated ≡ stored page (λ e. e.latest) es dated₀
-  pub left : take n (pendings pending) ≡ kept (λ e. not (of_page page e)) es
+pub record Settled (page : ℕ) (es : List Pending) (before after : Written) (n : ℕ) : Type 0 where
+  pub values : after.disk ≡ stored page (λ e. e.value) es before.disk
+  pub stamps : after.dated ≡ stored page (λ e. e.latest) es before.dated
+  pub left : take n (pendings after.pending) ≡ kept (λ e. not (of_page page e)) es
   pub fewer : n ≤ length es
-  pub value_words : length disk ≡ 512
-  pub stamp_words : length dated ≡ 512
-  pub pending_rows : length (pendings pending) ≡ 128
+  pub past : after.past ≡ before.past

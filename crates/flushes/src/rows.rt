@@ -1,14 +1,61 @@
 // A page's past rows by a rule: which stay, which entries leave one, and how many there are of each.
-ghost use Rattle.std.specs.Prelude.{◌≡◌, [], ◌<◌, ◌≤◌, length, take};
+ghost use Rattle.std.specs.Prelude.{◌≡◌, [], ◌+◌, ◌<◌, ◌≤◌, length, take};
 ghost use Rattle.model.specs.Lists.{kept};
 ghost use Rattle.model.specs.Changes.{of_page};
 ghost use Rattle.tables.specs.Rows.{pending_of, past_of, pendings, pasts};
-ghost use Rattle.shares.specs.Shares.{row_of_page, Numbered};
-ghost use Rattle.flushes.specs.Parts.{Ruled, stays_under, buried_in, leaves_under, Holding};
+ghost use Rattle.shares.specs.Shares.{row_of_page, NumberedAnew};
+ghost use Rattle.flushes.specs.Parts.{Ruled, rule_of, stays_under, buried_in, leaves_under, Holding};
 
-use crate::Rule;
 use model::{Past, Pending};
-use tables::{Disk, PastTable, PendingTable, Snapshots};
+use tables::{Disk, Heads, PastTable, Snapshots, Store};
+
+// How a page's past rows are judged: the page, its mark after the flush, the horizon, and how many snapshots are known.
+#[derive(Clone, Copy)]
+pub struct Rule {
+    pub page: u64,
+    pub mark: u64,
+    pub horizon: u64,
+    pub known: usize,
+}
+
+impl Rule {
+    pub fn new(h: Heads, page: u64, mark: u64) -> Self
+        ensures { result ≡ rule_of h page mark }
+    {
+        Rule {
+            page,
+            mark,
+            horizon: h.horizon,
+            known: h.snapshots,
+        }
+    }
+
+    // A row of another page stays, and so does a live one.
+    fn stays(self, q: Past, snapshots: &Snapshots) -> bool
+        requires { Ruled snapshots.now self }
+        ensures { result ≡ stays_under snapshots.now self q }
+    {
+        if q.object / 16 != self.page {
+            return true;
+        }
+        if tables::lookups::beyond(q, self.horizon) {
+            return true;
+        }
+        tables::lookups::wanted(q, snapshots, self.known, self.mark)
+    }
+
+    // The entry is of the page, and its buried row stays.
+    pub fn leaves(self, disk: &Disk, dated: &Disk, e: Pending, snapshots: &Snapshots) -> bool
+        requires { Ruled snapshots.now self }
+        ensures { result ≡ leaves_under disk.now dated.now snapshots.now self e }
+    {
+        if of_page(e, self.page) {
+            let q = buried(disk, dated, e);
+            return self.stays(q, snapshots);
+        }
+        false
+    }
+}
 
 pub fn of_page(e: Pending, page: u64) -> bool
     ensures { result ≡ of_page page e }
@@ -16,93 +63,52 @@ pub fn of_page(e: Pending, page: u64) -> bool
     e.object / 16 == page
 }
 
-// A row of another page stays, and so does a live one.
-fn stays(q: Past, snapshots: &Snapshots, rule: Rule) -> bool
-    requires { Ruled snapshots.now rule }
-    ensures { result ≡ stays_under snapshots.now rule q }
-{
-    if q.object / 16 != rule.page {
-        return true;
-    }
-    if tables::lookups::beyond(q, rule.horizon) {
-        return true;
-    }
-    tables::lookups::wanted(q, snapshots, rule.known, rule.mark)
-}
-
 // The row of the disk's old value, which the entry's takes the place of.
 pub fn buried(disk: &Disk, dated: &Disk, e: Pending) -> Past
-    requires { (length disk.now ≡ 512) × (length dated.now ≡ 512) × (e.object < 512) }
+    requires { e.object < 512 }
     ensures { result ≡ buried_in disk.now dated.now e }
 {
     let at = e.object as usize;
-    let stamp = dated[at];
-    let value = disk[at];
     Past {
         object: e.object,
-        from: stamp,
+        from: dated[at],
         until: e.first,
-        value,
+        value: disk[at],
     }
 }
 
-// The entry is of the page, and its buried row stays.
-pub fn leaves(disk: &Disk, dated: &Disk, e: Pending, snapshots: &Snapshots, rule: Rule) -> bool
-    requires { (length disk.now ≡ 512) × (length dated.now ≡ 512) × Ruled snapshots.now rule }
-    ensures { result ≡ leaves_under disk.now dated.now snapshots.now rule e }
-{
-    if of_page(e, rule.page) {
-        let q = buried(disk, dated, e);
-        return stays(q, snapshots, rule);
-    }
-    false
-}
-
-// Of the first n rows those of other pages stay, and of the page's k some do.
+// Of the first n rows those of other pages stay, and some of those that are numbered.
 pub fn count_staying(
     past: &PastTable,
     n: usize,
-    numbers: &[u8; 256],
-    k: usize,
+    numbers: &[u8],
     snapshots: &Snapshots,
     rule: Rule,
 ) -> usize
-    requires numbered { Numbered (past_of []) (row_of_page rule.page) (pasts past.now) n numbers.now k }
-    requires n_bound { (n ≤ 256) × (length (pasts past.now) ≡ 256) × Ruled snapshots.now rule }
+    requires numbered { NumberedAnew (past_of []) (row_of_page rule.page) (pasts past.now) n numbers.now }
+    requires n_bound { (n ≤ 256) × Ruled snapshots.now rule }
     ensures { (result ≡ length (kept (stays_under snapshots.now rule) (take n (pasts past.now)))) × (result ≤ n) }
 {
-    let mut staying = n - k;
-    let mut j: usize = 0;
-    while j < k {
-        let q = shares::row_at(past, numbers, j);
-        j += 1;
-        if stays(q, snapshots, rule) {
+    let mut staying = n - numbers.len();
+    for number in numbers {
+        let q = tables::past_at(past, *number as usize);
+        if rule.stays(q, snapshots) {
             staying += 1;
         }
     }
     staying
 }
 
-pub fn count_leaving(
-    disk: &Disk,
-    dated: &Disk,
-    pending: &PendingTable,
-    n: usize,
-    numbers: &[u8; 128],
-    k: usize,
-    snapshots: &Snapshots,
-    rule: Rule,
-) -> usize
-    requires numbered { Numbered (pending_of []) (of_page rule.page) (pendings pending.now) n numbers.now k }
-    requires n_bound { (n ≤ 128) × (length (pendings pending.now) ≡ 128) × (length disk.now ≡ 512) × (length dated.now ≡ 512) × Ruled snapshots.now rule }
-    ensures { (result ≡ length (kept (leaves_under disk.now dated.now snapshots.now rule) (take n (pendings pending.now)))) × (result ≤ n) }
+pub fn count_leaving(store: &Store, numbers: &[u8], rule: Rule) -> usize
+    requires numbered { NumberedAnew (pending_of []) (of_page rule.page) (pendings store.now.written.pending) store.now.heads.pending numbers.now }
+    requires n_bound { (store.now.heads.pending ≤ 128) × Ruled store.now.snapshots rule }
+    ensures { (result ≡ length (kept (leaves_under store.now.written.disk store.now.written.dated store.now.snapshots rule) (take store.now.heads.pending (pendings store.now.written.pending)))) × (result ≤ store.now.heads.pending) }
 {
+    let w = &store.written;
     let mut leaving: usize = 0;
-    let mut j: usize = 0;
-    while j < k {
-        let e = shares::entry_at(pending, numbers, j);
-        j += 1;
-        if leaves(disk, dated, e, snapshots, rule) {
+    for number in numbers {
+        let e = tables::pending_at(&w.pending, *number as usize);
+        if rule.leaves(&w.disk, &w.dated, e, &store.snapshots) {
             leaving += 1;
         }
     }
@@ -117,7 +123,7 @@ pub fn drop_rows(
     snapshots: &Snapshots,
     rule: Rule,
 ) -> usize
-    requires n_bound { (n ≤ 256) × (length (pasts past.old) ≡ 256) × Ruled snapshots.now rule }
+    requires n_bound { (n ≤ 256) × Ruled snapshots.now rule }
     requires staying_value { staying ≡ length (kept (stays_under snapshots.now rule) (take n (pasts past.old))) }
     ensures { Holding past.new result (kept (stays_under snapshots.now rule) (take n (pasts past.old))) }
 {

@@ -1,38 +1,26 @@
 // A page's entries: their buried rows are added to the past, then they go to disk and the others stay pending.
-ghost use Rattle.std.specs.Prelude.{◌≡◌, [], ◌++◌, ◌<◌, ◌≤◌, length, take};
+ghost use Rattle.std.specs.Prelude.{◌≡◌, [], ℕ, ◌++◌, ◌<◌, ◌≤◌, length, take, get_or};
 ghost use Rattle.model.specs.Changes.{of_page};
 ghost use Rattle.tables.specs.Rows.{pending_of, pendings, pasts};
-ghost use Rattle.shares.specs.Shares.{Numbered};
+ghost use Rattle.shares.specs.Shares.{rows_at};
 ghost use Rattle.flushes.specs.Parts.{Ruled, graves, Holding, Settled};
 
-use crate::Rule;
-use tables::{Disk, PastTable, PendingTable, Snapshots};
+use crate::rows::Rule;
+use tables::{Snapshots, Written};
 
-// Adds the rows that the entries leave, behind the m that there are; the result is the new count.
-pub fn bury(
-    disk: &Disk,
-    dated: &Disk,
-    pending: &PendingTable,
-    n: usize,
-    numbers: &[u8; 128],
-    entries: usize,
-    past: &mut PastTable,
-    m: usize,
-    snapshots: &Snapshots,
-    rule: Rule,
-) -> usize
-    requires numbered { Numbered (pending_of []) (of_page rule.page) (pendings pending.now) n numbers.now entries }
-    requires n_bound { (n ≤ 128) × (length (pendings pending.now) ≡ 128) × (length disk.now ≡ 512) × (length dated.now ≡ 512) × Ruled snapshots.now rule }
-    requires m_bound { (m ≤ 256) × (length (pasts past.old) ≡ 256) × (length (take m (pasts past.old) ++ graves disk.now dated.now snapshots.now rule (take n (pendings pending.now))) ≤ 256) }
-    ensures { Holding past.new result (take m (pasts past.old) ++ graves disk.now dated.now snapshots.now rule (take n (pendings pending.now))) }
+// Adds the rows that the numbered entries leave, behind the m that there are; the result is the new count.
+pub fn bury(w: &mut Written, numbers: &[u8], m: usize, snapshots: &Snapshots, rule: Rule) -> usize
+    requires inside { ((j : ℕ) → j < length numbers.now → get_or numbers.now j 0 < 128) × Ruled snapshots.now rule }
+    requires m_bound { (m ≤ 256) × (length (take m (pasts w.old.past) ++ graves w.old.disk w.old.dated snapshots.now rule (rows_at (pending_of []) (pendings w.old.pending) numbers.now)) ≤ 256) }
+    ensures rows { Holding w.new.past result (take m (pasts w.old.past) ++ graves w.old.disk w.old.dated snapshots.now rule (rows_at (pending_of []) (pendings w.old.pending) numbers.now)) }
+    ensures others { (w.new.disk ≡ w.old.disk) × (w.new.dated ≡ w.old.dated) × (w.new.pending ≡ w.old.pending) }
 {
-    let mut i: usize = 0;
+    let past = &mut w.past;
     let mut k = m;
-    while i < entries {
-        let e = shares::entry_at(pending, numbers, i);
-        i += 1;
-        if crate::rows::leaves(disk, dated, e, snapshots, rule) {
-            let q = crate::rows::buried(disk, dated, e);
+    for number in numbers {
+        let e = tables::pending_at(&w.pending, *number as usize);
+        if rule.leaves(&w.disk, &w.dated, e, snapshots) {
+            let q = crate::rows::buried(&w.disk, &w.dated, e);
             tables::put_past(past, k, q);
             k += 1;
         }
@@ -40,29 +28,20 @@ pub fn bury(
     k
 }
 
-// The page's entries go to disk; the result is the count of the others.
-pub fn settle(
-    disk: &mut Disk,
-    dated: &mut Disk,
-    pending: &mut PendingTable,
-    n: usize,
-    page: u64,
-) -> usize
-    requires { (n ≤ 128) × (length (pendings pending.old) ≡ 128) × (length disk.old ≡ 512) × (length dated.old ≡ 512) × (page < 32) }
-    ensures { Settled page (take n (pendings pending.old)) disk.old dated.old disk.new dated.new pending.new result }
+// The page's entries among the first n go to disk; the result is the count of the others.
+pub fn settle(w: &mut Written, n: usize, page: u64) -> usize
+    requires { (n ≤ 128) × (page < 32) }
+    ensures { Settled page (take n (pendings w.old.pending)) w.old w.new result }
 {
-    let mut i: usize = 0;
     let mut k: usize = 0;
-    while i < n {
-        let from = i;
-        let e = tables::pending_at(pending, from);
-        i += 1;
+    for i in 0..n {
+        let e = tables::pending_at(&w.pending, i);
         if crate::rows::of_page(e, page) {
             let at = e.object as usize;
-            disk[at] = e.value;
-            dated[at] = e.latest;
+            w.disk[at] = e.value;
+            w.dated[at] = e.latest;
         } else {
-            tables::move_pending(pending, from, k);
+            tables::move_pending(&mut w.pending, i, k);
             k += 1;
         }
     }

@@ -6,7 +6,6 @@ mod empty;
 mod flush;
 mod gossip;
 mod indexing;
-mod lent;
 mod replay;
 mod walk;
 
@@ -19,9 +18,8 @@ use journal::place::Place;
 use model::Answer;
 use tables::Store;
 
-pub use lent::{Started, fresh, restart};
-
 // What a start hands back: the answer, and the place for the next call.
+// Kept: a change hands back the same, but one type of both would have to stand in a crate below both, none of which has a use for it.
 #[derive(Clone, Copy)]
 pub struct StartedAnew {
     pub answer: Answer,
@@ -43,13 +41,12 @@ fn resumed(store: &mut Store, journal: &[u8]) -> Result<Place, Answer>
     if 65535 < journal.len() {
         return Err(Answer::Shape);
     }
-    if journal.len() == 0 {
+    let Some(version) = journal.first() else {
         empty::wipe(store);
         return Ok(Place { at: 0 });
-    }
-    let version = journal[0];
-    if version != 1 {
-        return Err(Answer::Version(version as u64));
+    };
+    if *version != 1 {
+        return Err(Answer::Version(*version as u64));
     }
     walk::walk(store, journal)
 }

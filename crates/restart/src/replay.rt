@@ -9,7 +9,7 @@ use model::Verdict;
 use tables::{Index, Store};
 
 // What a walk keeps from record to record: the index of the entries, whether it tells their rows, and the room for a commit's writes.
-// Kept: an Option of the index has to copy its 512 bytes whenever it is made anew.
+// Kept: were the index an Option, a commit, which is lent the room, would open it once more, with a case for None that can't come.
 #[derive(Drop)]
 pub struct Room {
     pub indexed: bool,
@@ -25,6 +25,8 @@ pub fn accepts(verdict: Verdict) -> bool
     matches!(verdict, Verdict::Accepted)
 }
 
+// Kept: the three kinds carry out by the same steps, but what a judge finds goes to its writer, and a commit's index stays from record to
+// record: one function for all would be handed two closures by each kind, with more lines than the three have.
 // The record at a place, told by its head; whether the store accepted it. The index is made anew where a commit needs it and it doesn't
 // tell the rows. A commit keeps it up, a message leaves the entries alone, and a flush takes entries out from between others.
 pub fn replay(store: &mut Store, room: &mut Room, journal: &[u8], at: usize, told: Record) -> bool

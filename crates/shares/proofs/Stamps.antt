@@ -175,6 +175,6 @@ page_listed w h page word z a share b s =
     let v : ViewAnew = record { page = page; as_of = Some s; word = word } in
     let out = page16 (λ k. part_of_anew word (on_disk w h v k)) in
     let under = lay_listed (covers_by (Some s)) (λ q. slot_of q.object) (λ q. part_of_anew word (past_seen q)) (past_of []) (pasts w.past) share.rows (row_of_page page) h.past b.past_rows out
-        ∙ below_past w h v refl in
+    ∙ below_past w h v refl in
     lay_listed (shows_by (Some s)) (λ e. slot_of e.object) (λ e. part_of_anew word (pending_seen e)) (pending_of []) (pendings w.pending) share.entries (of_page page) h.pending b.entries _
     ∙ sight_page w h v z a under [] [] []

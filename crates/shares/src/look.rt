@@ -10,9 +10,8 @@ ghost use Rattle.shares.specs.Shares.{row_of_page, rows_at, Numbered, Shared, Sh
 use crate::{Share, ShareAnew};
 use model::{Past, Pending};
 use tables::{Disk, Heads, PastTable, PendingTable, Written};
-use views::rows;
 use views::rows::Row;
-use views::{View, ViewAnew};
+use views::{View, ViewAnew, rows};
 
 // The stamps are tested first: the page is the row's already.
 fn covers(q: Past, v: View) -> bool

@@ -16,7 +16,11 @@ use views::rows::Row;
 fn newer(newest: u64, stamp: u64, bound: u64) -> u64
     ensures { result ≡ newer_of bound newest stamp }
 {
-    if bound < stamp { newest } else { newest.max(stamp) }
+    if bound < stamp {
+        newest
+    } else {
+        newest.max(stamp)
+    }
 }
 
 // The newest of a stamp and of those up to the bound that wrote the page's past rows.

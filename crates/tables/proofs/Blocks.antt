@@ -67,8 +67,7 @@ module _ (at j : ℕ) (bs : List Bool) (ps : List Past) where
   moved us zs ws ts k a n u c w p =
       let q : length ws ≡ k = ap length w ∙ length-take-le k zs (omega (arith, c.0, c.1)) in
       let l : at + k ≤ j + length bs = omega (arith, c.0) in
-      let o : Over ps at ws ts = p in
-      (
+      let o : Over ps at ws ts = p in (
         l,
         ap (λ (m : ℕ). take (at + m) ts) (sym q) ∙ o.0 ∙ ap (λ (r : List Past). take at ps ++ r) (w ∙ c.2 ∙ chosen_whole bs us ∙ ap (chosen bs) u),
         drop_later (at + k) (j + length bs) ts ps l (subst (λ (m : ℕ). drop (at + m) ts ≡ drop (at + m) ps) q o.1),
@@ -90,7 +89,7 @@ module _ (f : Past → Bool) (ps ts : List Past) (at i : ℕ) (p : Passed f ps t
   turned m bs us r n e d =
       let q : Passed f ps us r (i + length bs) =
       (let c = ap (λ (cs : List Bool). chosen cs (take (length bs) (drop i ts))) (e ∙ ap (λ (k : ℕ). take k (map f (drop i ts))) (sym n))
-          ∙ chosen_map f (length bs) (drop i ts) ∙ ap (λ (qs : List Past). kept f (take (length bs) qs)) p.2 in
+      ∙ chosen_map f (length bs) (drop i ts) ∙ ap (λ (qs : List Past). kept f (take (length bs) qs)) p.2 in
       let k = kept_append f (take i ps) (take (length bs) (drop i ps)) in
       (d.0, d.1 ∙ (λ j. p.1 j ++ c j) ∙ sym (ap (kept f) (take-add i (length bs) ps) ∙ k), d.2 ∙ drop_later i (i + length bs) ts ps (omega arith) p.2)) in
       subst (λ (k : ℕ). Passed f ps us r (i + k)) n q

@@ -1,5 +1,5 @@
 // Dead past values out of their table: the others keep their order, and the room is used again.
-ghost use Rattle.std.specs.Prelude.{IsTrue, ◌↔◌, EachIndex, slice_index_or, false, ◌≡◌, true, List, map, ◌++◌, ℕ, ◌≤◌, ◌<◌, ◌+◌, length, take, drop};
+ghost use Rattle.std.specs.Prelude.{Option, IsTrue, ◌↔◌, EachIndex, slice_index_or, false, ◌≡◌, true, List, map, ◌++◌, ℕ, ◌≤◌, ◌<◌, ◌+◌, length, take, drop};
 ghost use Rattle.model.specs.Lists.{kept, rising_from, all_b};
 ghost use Rattle.tables.specs.Rows.{pasts};
 ghost use Rattle.tables.specs.Lookups.{last_before, in_scope, stays_by};
@@ -18,11 +18,11 @@ fn in_scope(q: Past, scope: Option<u64>) -> bool
     }
 }
 
-// A row outside the scope stays, and so does a live one; s is the last known snapshot before the row's end.
-fn stays(q: Past, scope: Option<u64>, horizon: u64, s: u64, marks: &[u64; 32]) -> bool
-    ensures { (known : List ℕ) → (in_scope scope q ≡ true → s ≡ last_before known q.until) → result ≡ stays_by scope horizon known marks.now q }
+// A row that is judged stays where it is live; s is the last known snapshot before the row's end.
+fn stays(q: Past, horizon: u64, s: u64, marks: &[u64; 32]) -> bool
+    ensures { (scope : Option ℕ) (known : List ℕ) → in_scope scope q ≡ true → s ≡ last_before known q.until → result ≡ stays_by scope horizon known marks.now q }
 {
-    if !in_scope(q, scope) || crate::lookups::beyond(q, horizon) {
+    if crate::lookups::beyond(q, horizon) {
         return true;
     }
     let page = (q.object / 16) as usize;
@@ -92,8 +92,10 @@ fn judged(
                 until = q.until;
                 s = crate::lookups::last_before(snapshots, known, until);
             }
+            stay[i] = stays(q, horizon, s, marks);
+        } else {
+            stay[i] = true;
         }
-        stay[i] = stays(q, scope, horizon, s, marks);
     }
     stay
 }

@@ -1,25 +1,31 @@
--- Whole tables, by their types, with what is asked of the store, are what the writer asks.
-use Rattle.std.proofs.Common.{rules}
-use Rattle.tables.proofs.Rows.{copies_length}
+-- There is room for the copies and the buried rows, and what the four steps leave is the model's store.
+use mathlib.Core.Path.{sym, subst}
+use Rattle.shares.specs.Many.{Ordered}
+use Rattle.flushes.proofs.Holdings.{dues_ordered}
+use Rattle.flushes.proofs.Writing.{copies_fit, graves_fit, applied}
 use Rattle.flushes.proofs.apply_flush_anew.Goals as goal
 
-pub apply_flush-heads-requires-clause-ready : goal.apply_flush-heads-requires-clause-ready
-apply_flush-heads-requires-clause-ready c =
-    let w = c.whole.ensures in
-    let r = c.requires.ready in
-    record {
-      lookable = record {
-        value_words = w.value_words;
-        stamp_words = w.stamp_words;
-        pending_rows = w.pending_rows;
-        past_rows = w.past_rows;
-        pending_count = r.counted.pending_count;
-        past_count = r.counted.past_count;
-        in_range = r.in_range;
-        single = r.single;
-      };
-      snapshot_words = search rules;
-      copy_rows = copies_length _ _ (search rules);
-      counted = r.counted;
-      rising = r.rising;
-    }
+pub archive-requires-clause-copies_bound : goal.archive-requires-clause-copies_bound
+archive-requires-clause-copies_bound c =
+    rw c.listed-due.ensures (copies_fit c.args.store.now c.args.page c.requires.ready c.whole.ensures c.requires.planned.lists c.requires.room)
+
+pub archive-requires-clause-ordered : goal.archive-requires-clause-ordered
+archive-requires-clause-ordered c =
+    subst Ordered (sym c.listed-due.ensures) (dues_ordered c.args.store.now c.args.page c.requires.ready c.whole.ensures c.requires.planned.lists)
+
+pub bury-rows-requires-clause-m_bound : goal.bury-rows-requires-clause-m_bound
+bury-rows-requires-clause-m_bound c =
+    let q = rw c.new-rule.ensures at c.drop_rows-rest.ensures in
+    rw (c.new-rule.ensures, c.listed-entries.ensures)
+    (graves_fit c.args.store.now c.args.page c.requires.ready c.whole.ensures c.requires.planned.lists c.requires.room c.requires.planned.shares.entries q)
+
+pub returns : goal.returns
+returns c =
+    let q = rw c.new-rule.ensures at c.drop_rows-rest.ensures in
+    rw c.listed-due.ensures
+    (applied c.args.store.now c.args.page c.requires.ready c.whole.ensures c.requires.planned.lists c.requires.room c.requires.planned.shares.entries q
+    (rw c.listed-due.ensures at c.archive.ensures)
+    (rw (c.new-rule.ensures, c.listed-entries.ensures) at c.bury-rows.ensures.rows)
+    c.bury-rows.ensures.others
+    c.settle-left.ensures
+    c.whole-2.ensures)

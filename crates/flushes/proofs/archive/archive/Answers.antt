@@ -1,16 +1,16 @@
 -- Behind the copies that there are stands for each listed snapshot its head, with the page as of it.
-use mathlib.Core.Bool.{false}
-use mathlib.Core.Path.{◌∙◌}
 use native.Mathlib.Omega.{arith}
-use lib.ListN.{take}
+use lib.ListN.{length}
+use Rattle.std.proofs.Common.{rules}
 use Rattle.tables.specs.Rows.{copy_heads}
-use Rattle.shares.specs.Many.{page_at}
+use Rattle.tables.proofs.Rows.{copies_length}
+use Rattle.views.specs.declared.Word.TheVariants.{Value}
+use Rattle.shares.specs.Many.{page_at_anew}
 use Rattle.flushes.proofs.Copying.{copies_behind}
 use Rattle.flushes.proofs.archive.archive.Goals as goal
 
 pub returns : goal.returns
 returns c = let a = c.args in
-    let p = c.requires.copies_len in
-    let e = c.put_heads.ensures in
-    let q = c.look_at_all.ensures in
-    record { copied_after = copies_behind a.page (page_at a.disk.now a.dated.now a.pending.now a.past.now a.h a.page false) (take a.dues a.due.now) a.dues a.h.copies (copy_heads a.copies.now) (copy_heads c.put_heads.new.copies) a.copied.now _ (omega arith) (omega arith) e.0 q; copies_len_2 = (e.1, q.size ∙ p.1) }
+    let due = a.due.now in
+    let m = copies_length a.copies.now 128 (search rules) in
+    copies_behind a.page (page_at_anew a.w.now a.h a.page Value) due (length due) a.h.copies (copy_heads a.copies.now) (copy_heads c.put_heads.new.copies) a.copied.now _ (omega arith) (omega arith) c.put_heads.ensures c.look_at_all_anew.ensures

@@ -1,5 +1,5 @@
 -- The heads so far, with those of the snapshots ahead, are all of them.
-use Prim.Native.Nat.{◌≤◌, ◌+◌, ◌-◌}
+use Prim.Native.Nat.{◌+◌}
 use mathlib.Core.List.{◌++◌, map}
 use mathlib.Core.Path.{◌≡◌}
 use lib.ListN.{length, take, drop}
@@ -8,8 +8,5 @@ use Rattle.flushes.specs.Parts.{head_of}
 use Rattle.flushes.proofs.archive.put_heads.Given as goal
 
 abbrev pub invariant-loop-i : goal.invariant-loop-i
-invariant-loop-i l = (l.i ≤ l.dues) × (length (copy_heads l.copies) ≡ 128)
-    × (take (l.at + l.i) (copy_heads l.copies) ++ map (head_of l.page) (drop l.i (take l.dues l.due)) ≡ take l.at (copy_heads l.initial.copies) ++ map (head_of l.page) (take l.dues l.due))
-
-abbrev pub decreases-loop-i : goal.decreases-loop-i
-decreases-loop-i l = l.dues - l.i
+invariant-loop-i l = (length (copy_heads l.copies) ≡ 128)
+    × (take (l.at + l.i) (copy_heads l.copies) ++ map (head_of l.page) (drop l.i l.due) ≡ take l.at (copy_heads l.initial.copies) ++ map (head_of l.page) l.due)

@@ -3,99 +3,95 @@ use Prim.Native.Nat.{ℕ, ◌≤◌, ◌<◌, ◌+◌, ◌-◌}
 use mathlib.Core.List.{List, [], ◌++◌}
 use mathlib.Core.Path.{◌≡◌, sym, ◌∙◌}
 use native.Mathlib.Omega.{arith}
-use lib.ListN.{length, take, drop, get_or, set, length-set}
+use lib.ListN.{length, take, drop, get_or}
 use Rattle.model.specs.Store.{Store}
 use Rattle.shares.proofs.Orders.{rising_at, part_ordered, first_inside, first_behind}
 use Rattle.flushes.specs.Parts.{seen_in, due_seen, dues_seen}
 use Rattle.flushes.proofs.Listing.{none_due, dues_to_last, due_seen_lem, next_none, list_yes, list_no, list_end}
+use Rattle.flushes.proofs.Holdings.{looks, sized}
 use Rattle.flushes.proofs.dues.list_dues.Goals as goal
 use Rattle.flushes.proofs.dues.list_dues.Goals.{After-some_beyond}
 
-abbrev store : After-some_beyond → Store
-store c = let a = c.args in seen_in a.disk.now a.dated.now a.pending.now a.past.now a.h
+abbrev seen : After-some_beyond → Store
+seen c = let s = c.args.store.now in seen_in s.written s.heads
 
--- what is listed before the last snapshot, in which list, and that there are snapshots
-abbrev count : After-some_beyond → ℕ
-count c = c.list_between-k.result
+-- those listed before the last snapshot
+abbrev found : After-some_beyond → List ℕ
+found c = c.list_between.new.due
 
-abbrev list : After-some_beyond → List ℕ
-list c = c.list_between-k.new.due
-
-some : (c : After-some_beyond) → let n = c.args.h.snapshots in n - 1 + 1 ≡ n
+some : (c : After-some_beyond) → let n = c.args.store.now.heads.snapshots in n - 1 + 1 ≡ n
 some c = omega (arith, c.if-h-eq0.false)
 
-whole : (c : After-some_beyond) → c.args.h.snapshots ≤ length c.args.snapshots.now
-whole c = let k = c.requires.snapshots_bound in omega (arith, k.0, k.1)
+inside : (c : After-some_beyond) → c.args.store.now.heads.snapshots ≤ length c.args.store.now.snapshots
+inside c = omega (arith, c.whole.ensures.snapshot_words, c.requires.ready.counted.snapshot_count)
 
-few : (c : After-some_beyond) → count c < 64
+few : (c : After-some_beyond) → length (found c) < 64
 few c =
-    let a = c.args in
-    let k = c.requires.snapshots_bound in
-    omega (arith, k.0, c.list_between-k.ensures.upper_bound.0, first_inside (a.h.snapshots - 1) a.snapshots.now (omega (arith, whole c)) c.first_from-high.ensures)
+    let s = c.args.store.now in
+    omega (arith, c.requires.ready.counted.snapshot_count, some c, c.list_between.ensures.upper_bound, first_inside (s.heads.snapshots - 1) s.snapshots (omega (arith, inside c)) c.first_from-high.ensures)
 
 -- those listed, with the last snapshot if it is due, are all
 listed : (c : After-some_beyond)
-    → let a = c.args in
-    let l = a.snapshots.now in
-    let n = a.h.snapshots in
-    take (count c) (list c) ++ dues_seen (store c) a.page a.marked (drop (n - 1) (take n l)) ≡ dues_seen (store c) a.page a.marked (take n l)
+    → let l = c.args.store.now.snapshots in
+    let n = c.args.store.now.heads.snapshots in
+    found c ++ dues_seen (seen c) c.args.page c.args.marked (drop (n - 1) (take n l)) ≡ dues_seen (seen c) c.args.page c.args.marked (take n l)
 listed c =
     let a = c.args in
-    let l = a.snapshots.now in
-    let n = a.h.snapshots in
-    let w = c.newest_up_to-newest.ensures in
+    let s = a.store.now in
+    let l = s.snapshots in
+    let n = s.heads.snapshots in
+    let w = c.newest_up_to_anew-newest.ensures in
     let f = c.first_from-low.ensures in
-    let g = c.first_from-high.ensures in
-    let i : n - 1 ≤ length l = omega (arith, whole c) in
-    let y = first_inside (n - 1) l i g in
-    dues_to_last a.disk.now a.dated.now a.pending.now a.past.now a.h a.page c.requires.lookable l n (n - 1) (some c) (whole c) c.requires.snapshots_bound.3 a.marked w.still w.by_index f g (take (count c) (list c))
-    (c.list_between-k.ensures.by_index a.marked (λ j q r. omega (arith, first_behind (n - 1) l i f j q (omega arith))))
+    dues_to_last s.written s.heads a.page (sized s a.page c.requires.ready c.whole.ensures) (looks s a.page c.requires.ready) l n (n - 1) (some c) (inside c) c.requires.ready.rising a.marked w.still w.by_index f c.first_from-high.ensures (found c)
+    (c.list_between.ensures.by_index a.marked (λ j q r. omega (arith, first_behind (n - 1) l (omega (arith, inside c)) f j q (omega (arith, first_inside (n - 1) l (omega (arith, inside c)) c.first_from-high.ensures)))))
 
 -- the current ages tell whether the last one is due
 told : (c : After-some_beyond)
-    → let a = c.args in
-    let l = a.snapshots.now in
-    let n = a.h.snapshots in
-    c.some_beyond.result ≡ due_seen (store c) a.page a.marked (get_or l (n - 1) 0) (drop (n - 1 + 1) (take n l))
+    → let l = c.args.store.now.snapshots in
+    let n = c.args.store.now.heads.snapshots in
+    c.some_beyond.result ≡ due_seen (seen c) c.args.page c.args.marked (get_or l (n - 1) 0) (drop (n - 1 + 1) (take n l))
 told c =
     let a = c.args in
-    let l = a.snapshots.now in
-    let n = a.h.snapshots in
+    let l = a.store.now.snapshots in
+    let n = a.store.now.heads.snapshots in
     c.some_beyond.ensures
-    ∙ due_seen_lem (store c) a.page a.marked (get_or l (n - 1) 0) (drop (n - 1 + 1) (take n l)) c.if-last-marked.false (next_none a.page l n (n - 1 + 1) (omega arith)) (c.look_at.ensures [] [] [])
+    ∙ due_seen_lem (seen c) a.page a.marked (get_or l (n - 1) 0) (drop (n - 1 + 1) (take n l)) c.if-last-marked.false (next_none a.page l n (n - 1 + 1) (omega arith)) (c.look_at_anew.ensures [] [] [])
 
 pub returns-then-last-marked : goal.returns-then-last-marked
 returns-then-last-marked c = let a = c.args in
-    let l = a.snapshots.now in
-    let n = a.h.snapshots in
-    let k = c.requires.snapshots_bound in
-    let z = c.if-h-eq0.false in
-    (none_due (seen_in a.disk.now a.dated.now a.pending.now a.past.now a.h) a.page a.marked l n (omega arith) (λ i h. omega (arith, c.if-last-marked.true, rising_at n l k.3 (omega arith) i (n - 1) (omega arith) (omega arith))), omega arith, k.2)
+    let s = a.store.now in
+    let l = s.snapshots in
+    let n = s.heads.snapshots in
+    let b : n ≤ length l = omega (arith, c.whole.ensures.snapshot_words, c.requires.ready.counted.snapshot_count) in
+    c.clear.ensures
+    ∙ none_due (seen_in s.written s.heads) a.page a.marked l n b (λ i h. omega (arith, c.if-last-marked.true, rising_at n l c.requires.ready.rising b i (n - 1) (omega arith) (omega arith)))
 
 pub first_from-low-requires : goal.first_from-low-requires
-first_from-low-requires c = let a = c.args in
-    part_ordered a.h.snapshots a.snapshots.now c.requires.snapshots_bound.3 (omega arith) 0 (a.h.snapshots - 1) (omega arith)
+first_from-low-requires c = let s = c.args.store.now in
+    part_ordered s.heads.snapshots s.snapshots c.requires.ready.rising (omega (arith, c.whole.ensures.snapshot_words, c.requires.ready.counted.snapshot_count)) 0 (s.heads.snapshots - 1) (omega arith)
 
 pub first_from-high-requires : goal.first_from-high-requires
-first_from-high-requires c = let a = c.args in
-    part_ordered a.h.snapshots a.snapshots.now c.requires.snapshots_bound.3 (omega arith) 0 (a.h.snapshots - 1) (omega arith)
+first_from-high-requires c = let s = c.args.store.now in
+    part_ordered s.heads.snapshots s.snapshots c.requires.ready.rising (omega (arith, c.whole.ensures.snapshot_words, c.requires.ready.counted.snapshot_count)) 0 (s.heads.snapshots - 1) (omega arith)
+
+pub push-requires : goal.push-requires
+push-requires c = few (goal.at.push-requires c).After-some_beyond
 
 pub returns-then-some_beyond : goal.returns-then-some_beyond
-returns-then-some_beyond c = let a = c.args in
-    let l = a.snapshots.now in
-    let n = a.h.snapshots in
-    let e = c.list_between-k.ensures.upper_bound.1 in
-    let t = few (goal.at.returns-then-some_beyond c).After-some_beyond in
-    let v = list_yes (store (goal.at.returns-then-some_beyond c).After-some_beyond) a.page a.marked l n (n - 1) (list (goal.at.returns-then-some_beyond c).After-some_beyond) (count (goal.at.returns-then-some_beyond c).After-some_beyond) (listed (goal.at.returns-then-some_beyond c).After-some_beyond) (omega (arith, some (goal.at.returns-then-some_beyond c).After-some_beyond)) (whole (goal.at.returns-then-some_beyond c).After-some_beyond) (sym (told (goal.at.returns-then-some_beyond c).After-some_beyond) ∙ c.if-some_beyond.true) (omega arith) in
-    let d = set (list (goal.at.returns-then-some_beyond c).After-some_beyond) (count (goal.at.returns-then-some_beyond c).After-some_beyond) (get_or l (n - 1) 0) in
-    let g : length d ≡ 64 = simp length-set e in
-    (list_end (store (goal.at.returns-then-some_beyond c).After-some_beyond) a.page a.marked l n (n - 1 + 1) d (count (goal.at.returns-then-some_beyond c).After-some_beyond + 1) v (omega arith) (omega arith), omega arith, g)
+returns-then-some_beyond c =
+    let b = (goal.at.returns-then-some_beyond c).After-some_beyond in
+    let a = c.args in
+    let l = a.store.now.snapshots in
+    let n = a.store.now.heads.snapshots in
+    c.push.ensures
+    ∙ list_end (seen b) a.page a.marked l n (n - 1 + 1) _
+    (list_yes (seen b) a.page a.marked l n (n - 1) (found b) (listed b) (omega (arith, some b)) (inside b) (sym (told b) ∙ c.if-some_beyond.true)) (omega arith)
 
-pub returns : goal.returns
-returns c = let a = c.args in
-    let l = a.snapshots.now in
-    let n = a.h.snapshots in
-    let e = c.list_between-k.ensures.upper_bound.1 in
-    let t = few (goal.at.returns c).After-some_beyond in
-    let v = list_no (store (goal.at.returns c).After-some_beyond) a.page a.marked l n (n - 1) (list (goal.at.returns c).After-some_beyond) (count (goal.at.returns c).After-some_beyond) (listed (goal.at.returns c).After-some_beyond) (omega (arith, some (goal.at.returns c).After-some_beyond)) (whole (goal.at.returns c).After-some_beyond) (sym (told (goal.at.returns c).After-some_beyond) ∙ c.if-some_beyond.false) in
-    (list_end (store (goal.at.returns c).After-some_beyond) a.page a.marked l n (n - 1 + 1) (list (goal.at.returns c).After-some_beyond) (count (goal.at.returns c).After-some_beyond) v (omega arith) (omega arith), omega arith, e)
+pub returns-else-some_beyond : goal.returns-else-some_beyond
+returns-else-some_beyond c =
+    let b = (goal.at.returns-else-some_beyond c).After-some_beyond in
+    let a = c.args in
+    let l = a.store.now.snapshots in
+    let n = a.store.now.heads.snapshots in
+    list_end (seen b) a.page a.marked l n (n - 1 + 1) (found b)
+    (list_no (seen b) a.page a.marked l n (n - 1) (found b) (listed b) (omega (arith, some b)) (inside b) (sym (told b) ∙ c.if-some_beyond.false)) (omega arith)

@@ -5,28 +5,27 @@ use lib.ListN.{take, drop, length-take}
 use Rattle.shares.proofs.Orders.{part_ordered}
 use Rattle.flushes.specs.Parts.{seen_in}
 use Rattle.flushes.proofs.Listing.{pages_tell, listed_high}
+use Rattle.flushes.proofs.Holdings.{looks}
 use Rattle.flushes.proofs.dues.list_within.Goals as goal
 
-pub look_at_all-requires : goal.look_at_all-requires
-look_at_all-requires c = let a = c.args in
-    let l = a.snapshots.now in
-    let k = c.requires.snapshots_bound in
+pub look_at_all_anew-requires : goal.look_at_all_anew-requires
+look_at_all_anew-requires c = let a = c.args in
+    let s = a.store.now in
+    let l = s.snapshots in
+    let k = c.requires.ready in
     let n = a.high + 1 - (a.low + 1) in
     record {
-      lookable = c.requires.lookable;
+      lookable = looks s a.page k;
       shared = c.requires.shared;
-      ordered = (part_ordered a.h.snapshots l k.4 (omega arith) (a.low + 1) n (omega arith), omega (arith, length-take n (drop (a.low + 1) l)));
+      ordered = (part_ordered s.heads.snapshots l k.rising (omega arith) (a.low + 1) n (omega arith), omega (arith, length-take n (drop (a.low + 1) l)));
     }
 
-pub returns : goal.returns
-returns c = let a = c.args in
-    let l = a.snapshots.now in
-    let k = c.requires.snapshots_bound in
-    let w = c.look_at_all.ensures in
-    let r = c.find_dues.ensures in record {
-      upper_bound = r.upper_bound;
-      by_index = λ m f.
-          listed_high (seen_in a.disk.now a.dated.now a.pending.now a.past.now a.h) a.page m (take a.h.snapshots l) a.low a.high c.requires.low_lt_high.0 (take c.find_dues.result c.find_dues.new.due)
-          (r.listed_to (seen_in a.disk.now a.dated.now a.pending.now a.past.now a.h) a.page m a.h.snapshots (omega arith) k.0
-          (pages_tell a.disk.now a.dated.now a.pending.now a.past.now a.h a.page m l a.h.snapshots a.low a.high k.3 (omega arith) f w));
-    }
+pub returns-clause-by_index : goal.returns-clause-by_index
+returns-clause-by_index c = let a = c.args in
+    let s = a.store.now in
+    let l = s.snapshots in
+    let n = s.heads.snapshots in
+    λ m f.
+    listed_high (seen_in s.written s.heads) a.page m (take n l) a.low a.high c.requires.low_lt_high.0 c.find_dues.new.due
+    (c.find_dues.ensures.listed_to (seen_in s.written s.heads) a.page m n (omega arith) (omega arith)
+    (pages_tell s.written s.heads a.page m l n a.low a.high c.requires.high_bound.0 (omega arith) f c.look_at_all_anew.ensures))

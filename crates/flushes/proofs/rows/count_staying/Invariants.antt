@@ -1,15 +1,14 @@
 -- The rows counted so far, with those that stay ahead, are those of all.
 use Prim.Native.Nat.{◌≤◌, ◌+◌, ◌-◌}
+use mathlib.Core.List.{[]}
 use mathlib.Core.Path.{◌≡◌}
 use lib.ListN.{length, take, drop}
 use Rattle.model.specs.Lists.{kept}
-use Rattle.tables.specs.Rows.{pasts}
-use Rattle.shares.specs.Shares.{row_of_page}
+use Rattle.tables.specs.Rows.{past_of, pasts}
+use Rattle.shares.specs.Shares.{rows_at}
 use Rattle.flushes.specs.Parts.{stays_under}
 use Rattle.flushes.proofs.rows.count_staying.Given as goal
 
-abbrev pub invariant-loop-j : goal.invariant-loop-j
-invariant-loop-j l = (l.staying ≤ l.n - l.k + l.j) × (l.j ≤ l.k) × (l.staying + length (kept (stays_under l.snapshots l.rule) (drop l.j (take l.k (kept (row_of_page l.rule.page) (take l.n (pasts l.past)))))) ≡ length (kept (stays_under l.snapshots l.rule) (take l.n (pasts l.past))))
-
-abbrev pub decreases-loop-j : goal.decreases-loop-j
-decreases-loop-j l = l.k - l.j
+abbrev pub invariant-loop-number : goal.invariant-loop-number
+invariant-loop-number l = (l.staying ≤ l.n - length l.numbers + l.number-index)
+    × (l.staying + length (kept (stays_under l.snapshots l.rule) (rows_at (past_of []) (pasts l.past) (drop l.number-index l.numbers))) ≡ length (kept (stays_under l.snapshots l.rule) (take l.n (pasts l.past))))

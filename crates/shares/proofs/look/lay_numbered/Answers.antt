@@ -19,5 +19,5 @@ loop-j-preserved g c =
     let o = λ (o : ℕ) (y : List ℕ). pick (t.shown_b a.v.as_of r) (set y (slot_of o) (part_of_anew a.v.word (t.seen_of r))) y in (
       omega arith,
       c.lay_row.ensures ∙ ap (λ k. o k v.out) c.object.ensures ∙ ap (o (t.object_of r)) v.invariant.1
-      ∙ lay_next (t.shown_b a.v.as_of) (λ r. slot_of (t.object_of r)) (λ r. part_of_anew a.v.word (t.seen_of r)) t.blank (t.rows a.t.now) a.numbers.now (v.j - 1) v.j (omega arith) (omega arith) (rw c.from.ensures at c.at-r.ensures) a.out.now,
+          ∙ lay_next (t.shown_b a.v.as_of) (λ r. slot_of (t.object_of r)) (λ r. part_of_anew a.v.word (t.seen_of r)) t.blank (t.rows a.t.now) a.numbers.now (v.j - 1) v.j (omega arith) (omega arith) (rw c.from.ensures at c.at-r.ensures) a.out.now,
     )

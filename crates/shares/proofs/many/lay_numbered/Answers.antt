@@ -28,6 +28,6 @@ returns g c =
     let v = c.loop-j in
     let t = g.R.Row in
     λ f w p.
-        pages_same
-        (λ s. lay_end (t.shown_b (Some s)) (λ r. slot_of (t.object_of r)) (λ r. part_of_anew a.word (t.seen_of r)) t.blank (t.rows a.t.now) a.numbers.now v.j c.loop-j-test.false (f s))
-        (v.invariant.1 f w p)
+    pages_same
+    (λ s. lay_end (t.shown_b (Some s)) (λ r. slot_of (t.object_of r)) (λ r. part_of_anew a.word (t.seen_of r)) t.blank (t.rows a.t.now) a.numbers.now v.j c.loop-j-test.false (f s))
+    (v.invariant.1 f w p)

@@ -23,9 +23,9 @@ returns c =
     let b = c.newest-b.result in
     let r = c.newest.result in
     let f : b ≡ newest_of (λ q. q.from) a.bound d qs = c.newest-b.ensures
-        ∙ ap (λ ns. newest_of (λ q. q.from) a.bound d (rows_at (past_of []) (pasts w.past) ns)) c.listed.ensures ∙ ap (newest_of (λ q. q.from) a.bound d) s.past_rows.rows in
+    ∙ ap (λ ns. newest_of (λ q. q.from) a.bound d (rows_at (past_of []) (pasts w.past) ns)) c.listed.ensures ∙ ap (newest_of (λ q. q.from) a.bound d) s.past_rows.rows in
     let e : r ≡ newest_of (λ e. e.latest) a.bound b es = c.newest.ensures
-        ∙ ap (λ ns. newest_of (λ e. e.latest) a.bound b (rows_at (pending_of []) (pendings w.pending) ns)) c.listed-2.ensures ∙ ap (newest_of (λ e. e.latest) a.bound b) s.entries.rows in
+    ∙ ap (λ ns. newest_of (λ e. e.latest) a.bound b (rows_at (pending_of []) (pendings w.pending) ns)) c.listed-2.ensures ∙ ap (newest_of (λ e. e.latest) a.bound b) s.entries.rows in
     let m : b ≤ r = omega (arith, newest_least (λ e. e.latest) a.bound b es) in record {
       still = record {
         entries = newest_outside (λ e. e.latest) a.bound r b es (omega arith);

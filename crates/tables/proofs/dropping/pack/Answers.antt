@@ -20,4 +20,4 @@ loop-i-preserved c =
     let rows = a.rows.now in
     let l = pasts_length a.t.now 256 (omega arith) in
     c.put_past.ensures ∙ ap (λ (l : List Past). set l (a.at + v.i) (get_or rows v.i no_past)) v.invariant
-        ∙ paste-suc ps a.at rows v.i no_past (omega (arith, l)) (omega (arith, l)) ∙ ap (paste ps a.at rows) (sym (add-one v.i))
+    ∙ paste-suc ps a.at rows v.i no_past (omega (arith, l)) (omega (arith, l)) ∙ ap (paste ps a.at rows) (sym (add-one v.i))

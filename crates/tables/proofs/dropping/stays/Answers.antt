@@ -1,4 +1,4 @@
--- Out of scope, beyond the horizon, or wanted beyond the mark of the page.
+-- Beyond the horizon, or wanted beyond the mark of the page.
 use Prim.Native.Nat.{◌≤◌, ◌/◌}
 use mathlib.Core.Path.{◌≡◌, refl, ◌∙◌, sym}
 use native.Mathlib.Omega.{arith}
@@ -14,6 +14,5 @@ returns c =
     let o : 32 ≤ p → length a.marks.now ≤ p = λ h. omega arith in
     let m : c.if-page-lt32.marked ≡ get_or a.marks.now p 0 =
     (elim c.if-page-lt32.branch [ then-page-lt32 w ↦ w.marked-is | else-page-lt32 w ↦ w.marked-is ∙ sym (get_or-eq_default a.marks.now 0 (o w.if-page-lt32.false)) ]) in
-    let i = sym c.in_scope.ensures ∙ c.if-not-in_scope.false in
     let e = sym c.beyond.ensures ∙ c.if-beyond.false in
-    λ known l. c.wants.ensures ∙ stays_last a.horizon known a.q a.scope a.marks.now a.s _ (l i) i e m
+    λ scope known i l. c.wants.ensures ∙ stays_last a.horizon known a.q scope a.marks.now a.s _ l i e m
