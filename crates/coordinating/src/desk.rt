@@ -2,7 +2,7 @@
 ghost use Rattle.io.specs.Counts.{IsPrefixLen};
 
 use crate::help;
-use coordinator::{State, messages};
+use coordinator::State;
 use files::{paths, whole};
 use lines::orders::Order;
 use model::Answer;
@@ -51,7 +51,7 @@ fn reply(
 ) -> Answer {
     let whole = &bytes[..];
     let n = paths::within(count, whole);
-    messages::serve(state, &whole[..n], message)
+    state.serve(&whole[..n], message)
 }
 
 // Grant, message and serve, with room for a message. No other order comes here.
@@ -60,12 +60,12 @@ fn answer_to(order: Order, line: &[u8], state: &mut State, message: &mut [u8]) -
         Order::Grant(tick, node) => {
             let t = tick;
             let n = node;
-            coordinator::grant(state, t, n)
+            state.grant(t, n)
         }
         Order::Message(prev, clock) => {
             let from = prev;
             let to = clock;
-            messages::message(state, from, to, message)
+            state.message(from, to, message)
         }
         Order::Serve(begin, end) => {
             let from = begin;
@@ -82,7 +82,7 @@ fn answer_to(order: Order, line: &[u8], state: &mut State, message: &mut [u8]) -
 fn bytes_of(state: &State, out: &mut [u8]) -> usize
     ensures { IsPrefixLen result out.new }
 {
-    let answer = coordinator::kept::keep(state, out);
+    let answer = state.keep(out);
     say::written(answer, out)
 }
 
@@ -149,8 +149,8 @@ fn settled(
 
 // How many stamps are granted, the largest curr sent, and the stamps.
 fn show(rt: &HostRuntime, state: &State) -> bool {
-    let sent = coordinator::sent(state);
-    let stamps = coordinator::stamps(state);
+    let sent = state.sent();
+    let stamps = state.stamps();
     say::known(rt, Answer::Done(0), stamps.len() as u64, sent, stamps)
 }
 

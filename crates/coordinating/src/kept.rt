@@ -86,11 +86,15 @@ fn read(rt: &HostRuntime, path: &[u8], out: &mut [u8]) -> Whole {
 // The input is standard input, or the demonstration's lines. A state has fewer bytes than there is room for here, so a
 // file that is longer shows.
 fn serve(rt: &HostRuntime, path: &[u8], source: Source) -> bool {
-    let mut state = [0u64; 66];
+    let mut state = State {
+        count: 0,
+        sent: 0,
+        stamps: [0; 64],
+    };
     let mut bytes = io::buffer();
     let read = read(rt, path, &mut bytes);
     let n = file::count(read, &bytes);
-    let answer = coordinator::kept::restart(&mut state, &bytes[..n]);
+    let answer = state.restart(&bytes[..n]);
     let desk = begun(rt, path, read, answer);
     let mut buffer = input::buffer();
     let input = laid(&mut buffer, source);

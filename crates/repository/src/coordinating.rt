@@ -1,4 +1,4 @@
-// The faces of a coordinator: its state is one lent array of words.
+// The faces of a coordinator: its state is one lent struct.
 ghost use Rattle.model.specs.Coordinator as model;
 ghost use Rattle.model.specs.CoordinatorBytes as keeps;
 ghost use Rattle.model.specs.Exchange as exchanges;
@@ -14,7 +14,7 @@ use coordinator::State;
 pub extern "C" fn jibcradle_coordinator_fresh(state: &mut State) -> Reply
     ensures { Resumed begun result (held state.new) }
 {
-    let answer = coordinator::fresh(state);
+    let answer = state.fresh();
     crate::steps::answered(answer)
 }
 
@@ -23,7 +23,7 @@ pub extern "C" fn jibcradle_coordinator_fresh(state: &mut State) -> Reply
 pub extern "C" fn jibcradle_grant(state: &mut State, tick: u64, node: u64) -> Reply
     ensures { Granted (model.grant (held state.old) tick node) result (held state.new) }
 {
-    let answer = coordinator::grant(state, tick, node);
+    let answer = state.grant(tick, node);
     crate::steps::answered(answer)
 }
 
@@ -37,7 +37,7 @@ pub extern "C" fn jibcradle_message(
 ) -> Reply
     ensures { Sent (model.message (held state.old) prev clock buffer.old) result (held state.new) buffer.new }
 {
-    let answer = coordinator::messages::message(state, prev, clock, buffer);
+    let answer = state.message(prev, clock, buffer);
     crate::steps::answered(answer)
 }
 
@@ -46,7 +46,7 @@ pub extern "C" fn jibcradle_message(
 pub extern "C" fn jibcradle_serve(state: &mut State, request: &[u8], buffer: &mut [u8]) -> Reply
     ensures { Sent (exchanges.serve (held state.old) request.now buffer.old) result (held state.new) buffer.new }
 {
-    let answer = coordinator::messages::serve(state, request, buffer);
+    let answer = state.serve(request, buffer);
     crate::steps::answered(answer)
 }
 
@@ -55,7 +55,7 @@ pub extern "C" fn jibcradle_serve(state: &mut State, request: &[u8], buffer: &mu
 pub extern "C" fn jibcradle_coordinator_keep(state: &State, buffer: &mut [u8]) -> Reply
     ensures { Shown (keeps.keep_coordinator (held state.now) buffer.old) result buffer.new }
 {
-    let answer = coordinator::kept::keep(state, buffer);
+    let answer = state.keep(buffer);
     crate::steps::answered(answer)
 }
 
@@ -64,6 +64,6 @@ pub extern "C" fn jibcradle_coordinator_keep(state: &State, buffer: &mut [u8]) -
 pub extern "C" fn jibcradle_coordinator_restart(state: &mut State, bytes: &[u8]) -> Reply
     ensures { Resumed (keeps.restart_coordinator bytes.now) result (held state.new) }
 {
-    let answer = coordinator::kept::restart(state, bytes);
+    let answer = state.restart(bytes);
     crate::steps::answered(answer)
 }
