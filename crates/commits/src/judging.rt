@@ -68,11 +68,7 @@ pub(crate) fn displaced(store: &Store, row: usize, object: u64, t: u64) -> Optio
     requires { Sound store.now × (row < 128) }
     ensures { MatchOption result (live_in (stored store.now) (value_at store.now row object t) ≡ false) (λ q. (q ≡ value_at store.now row object t) × (live_in (stored store.now) q ≡ true)) }
 {
-    let q = close(
-        tables::pending_at(&store.written.pending, row),
-        object,
-        t,
-    );
+    let q = close(tables::pending_at(&store.written.pending, row), object, t);
     if lives(store, q) {
         return Some(q);
     }

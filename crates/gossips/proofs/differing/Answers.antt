@@ -1,7 +1,6 @@
 -- The stamps ahead against the known snapshots ahead say what the whole lists say.
 use mathlib.Core.Path.{◌≡◌, ap, ◌∙◌}
 use mathlib.Core.Bool.{true}
-use native.Mathlib.Omega.{arith}
 use lib.ListN.{length, take, drop}
 use Prim.Native.Nat.{◌-◌}
 use Rattle.model.specs.Lists.{rising_from}
