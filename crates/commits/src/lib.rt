@@ -2,6 +2,7 @@
 #![tactic(auto)]
 
 mod applying;
+pub mod fitting;
 mod judging;
 
 ghost use Rattle.std.specs.Prelude.{◌≡◌, true, false, List, map, ℕ, ◌+◌, ◌≤◌, ◌<◌, max, length, take, leb};
