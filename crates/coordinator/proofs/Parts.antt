@@ -1,7 +1,7 @@
 -- Rising stamps parted at a bound, and those behind it at another: the stamps of a message are a part of the list, which tells its curr.
 use Prim.Native.Nat.{ℕ, zero, suc, ◌-◌, ◌≤◌, ◌<◌}
 use mathlib.Core.Path.{◌≡◌, refl, ap, sym, ◌∙◌}
-use mathlib.Core.Bool.{true}
+use mathlib.Core.Bool.{true, false}
 use mathlib.Core.List.{List, [], ◌∷◌}
 use native.Mathlib.Omega.{arith}
 use lib.ListN.{length, take, drop, get_or, length-drop}
@@ -12,7 +12,22 @@ use Rattle.model.specs.Lists.{pick, rising_from}
 use Rattle.model.specs.Coordinator.{stamps_in}
 use Rattle.tables.proofs.Cases.{by_test}
 use Rattle.tables.proofs.Rising.{first_beyond, rest_rises}
-use Rattle.coordinator.specs.Messages.{Parted, Speaks}
+use Rattle.coordinator.specs.Messages.{Speaks}
+use Rattle.std.specs.List.Sorted.{IsPartitionPoint}
+
+-- the index n parts a list at a bound: the one before it is at most the bound, the one at it is beyond
+pub record Parted (l : List ℕ) (bound n : ℕ) : Type 0 where
+  pub inside : n ≤ length l
+  pub low : (i : ℕ) → suc i ≡ n → get_or l i 0 ≤ bound
+  pub high : n < length l → bound < get_or l n 0
+
+-- as the library finds it
+pub parted_point : {l : List ℕ} {bound n : ℕ} → n ≤ length l → IsPartitionPoint (λ s. leb s bound ≡ true) (λ s. leb s bound ≡ false) l n → Parted l bound n
+parted_point {l} {bound} {n} h point = record {
+  inside = h;
+  low = λ i e. leb-true _ _ (point.0 i 0 (omega arith) (omega arith));
+  high = λ k. leb-false _ _ (point.1 n 0 (omega arith) k);
+}
 
 -- ---- how many at the front are at most a bound
 abbrev leading : ℕ → List ℕ → ℕ

@@ -4,29 +4,21 @@ ghost use Rattle.model.specs.Lists.{rising_from};
 ghost use Rattle.model.specs.Coordinator as model;
 ghost use Rattle.model.specs.Exchange as exchange;
 ghost use Rattle.coordinator.specs.States.{held, Wrote};
-ghost use Rattle.coordinator.specs.Messages.{Parted, Speaks};
+ghost use Rattle.coordinator.specs.Messages.{Speaks};
 
 use crate::State;
 use journal::place::Place;
 use model::Answer;
 use requests::Request;
 
-// How many of the stamps, which ascend, are at most a bound.
-fn up_to(stamps: &[u64], bound: u64) -> usize
-    requires { rising_from 0 stamps.now ≡ true }
-    ensures { Parted stamps.now bound result }
-{
-    stamps.partition_point(|stamp| *stamp <= bound)
-}
-
 // The stamps of a message, and its curr: with more than sixteen after prev up to the clock stamp it is the sixteenth.
 fn choose(granted: &[u64], prev: u64, clock: u64) -> (&[u64], u64)
     requires { rising_from 0 granted.now ≡ true }
     ensures { Speaks granted.now prev clock result.0.now result.1 }
 {
-    let start = up_to(granted, prev);
+    let start = granted.partition_point(|stamp| *stamp <= prev);
     let after = &granted[start..];
-    let count = up_to(after, clock);
+    let count = after.partition_point(|stamp| *stamp <= clock);
     if 16 < count {
         return (&after[..16], after[15]);
     }

@@ -30,11 +30,21 @@ fn word_at(bytes: &[u8], at: usize) -> u64
 pub fn framed(bytes: &[u8]) -> bool
     ensures { result ≡ framed_b bytes.now }
 {
-    STAMPS_AT <= bytes.len()
-        && fields::get_be(bytes, 0, 2) as usize == bytes.len() - 2
-        && bytes[KIND_AT] == Kind::Gossip as u8
-        && bytes[COUNT_AT] <= 16
-        && bytes.len() == STAMPS_AT + 8 * (bytes[COUNT_AT] as usize)
+    if bytes.len() < STAMPS_AT {
+        return false;
+    }
+    let length = fields::get_be(bytes, 0, 2) as usize;
+    if length != bytes.len() - 2 {
+        return false;
+    }
+    if bytes[KIND_AT] != Kind::Gossip as u8 {
+        return false;
+    }
+    let count = bytes[COUNT_AT] as usize;
+    if 16 < count {
+        return false;
+    }
+    bytes.len() == STAMPS_AT + 8 * count
 }
 
 // Stamps, one behind another.

@@ -5,7 +5,6 @@ mod archive;
 mod due;
 mod dues;
 mod judge;
-mod lent;
 mod rows;
 mod settle;
 
@@ -14,8 +13,6 @@ ghost use Rattle.model.specs.Changes.{flush_store};
 ghost use Rattle.model.specs.Judgement.{judge_flush};
 ghost use Rattle.tables.specs.Contents.{stored, Laid};
 ghost use Rattle.flushes.specs.Promises.{Whole, ReadyAnew, PlannedAnew, Room, AppliedAnew};
-
-pub use lent::{Judged, Plan, apply_flush, judge_flush};
 
 use due::Stamps;
 use model::Verdict;

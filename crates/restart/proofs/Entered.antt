@@ -25,20 +25,6 @@ blank_at zero o = refl
 blank_at (suc n) zero = refl
 blank_at (suc n) (suc o) = blank_at n o
 
--- for one object after the other
-module _ (index : List ℕ) (p : ℕ) (v : (k : ℕ) → k < p → get_or index k 128 ≡ 128) where
-  pub clear_more : p < length index → (k : ℕ) → k < p + 1 → get_or (set index p 128) k 128 ≡ 128
-  clear_more l k h =
-      by_test (eqb k p)
-      (λ e. rw (eqb-true k p e) (get_or-set_same index p 128 128 l))
-      (λ e. get_or-set_other index p k 128 128 (eqb-false k p e) ∙ v k (omega (arith, eqb-false k p e)))
-
-  pub clear_all : length index ≤ p → (k : ℕ) → get_or index k 128 ≡ 128
-  clear_all l k =
-      by_test (ltb k p)
-      (λ e. v k (ltb-true k p e))
-      (λ e. get_or-eq_default index 128 (omega (arith, ltb-false k p e)))
-
 -- ---- an object that is not found is no entry's
 other : (n : ℕ) (es : List Pending) (i o : ℕ) → i < n → i < length es → lookup o (take n es) ≡ none → (pending_at es i).object ≡ o → ⊥
 other zero es i o h l f e = omega arith
