@@ -1,19 +1,13 @@
 -- What the functions over lent tables compute from them.
-use Rattle.std.specs.Prelude.{ℕ, ◌+◌, ◌-◌, ◌*◌, ◌≤◌, ◌<◌, max, ◌≡◌, Bool, true, not, List, [], ◌∷◌, ◌++◌, map, length, take, drop, get_or, ltb, eqb}
+use Rattle.std.specs.Prelude.{ℕ, ◌+◌, ◌-◌, ◌*◌, ◌≤◌, ◌<◌, ◌≡◌, Bool, true, not, List, [], ◌∷◌, ◌++◌, length, take, drop, get_or, ltb}
 use Rattle.model.specs.declared.Pending.{Pending}
 use Rattle.model.specs.declared.Past.{Past}
-use Rattle.model.specs.declared.Answer.TheVariants.{PastFull, ArchiveFull}
-use Rattle.model.specs.declared.Verdict.{Verdict}
-use Rattle.model.specs.declared.Verdict.TheVariants.{Accepted, Idle, Refused}
-use Rattle.model.specs.Limits.{most_past, most_copies}
-use Rattle.model.specs.Lists.{both, either, pick, any_b, kept, empty_b, rising_from}
-use Rattle.model.specs.Store.{Store, Copy, page16, some_slot, object_at, page_of, beyond_b, look}
+use Rattle.model.specs.Lists.{both, pick, any_b, kept, empty_b, rising_from}
+use Rattle.model.specs.Store.{Store, Copy, page16, some_slot, object_at, look}
 use Rattle.model.specs.Changes.{of_page, stored}
-use Rattle.tables.specs.declared.CopyHead.{CopyHead}
 use Rattle.tables.specs.declared.Heads.{Heads}
 use Rattle.tables.specs.Rows.{pendings, pasts}
 use Rattle.tables.specs.Contents.{contents}
-use Rattle.tables.specs.Lookups.{wanted_b}
 use Rattle.views.specs.declared.View.{View}
 use Rattle.views.specs.Views.{viewed}
 use Rattle.flushes.specs.declared.rows.Rule.{Rule}

@@ -15,9 +15,8 @@ ghost use Rattle.model.specs.Judgement.{judge_flush};
 ghost use Rattle.tables.specs.Contents.{stored, Laid};
 ghost use Rattle.flushes.specs.Promises.{Whole, ReadyAnew, PlannedAnew, Room, AppliedAnew};
 
-pub use lent::{Judged, Plan, apply_flush, judge_flush};
-
 use due::Stamps;
+pub use lent::{Judged, Plan, apply_flush, judge_flush};
 use model::Verdict;
 use rows::Rule;
 use shares::ShareAnew;
