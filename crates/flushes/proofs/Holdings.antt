@@ -18,7 +18,7 @@ use Rattle.views.proofs.Sights.{Sized}
 use Rattle.shares.specs.Many.{Ordered}
 use Rattle.shares.proofs.Orders.{rising_ordered}
 use Rattle.flushes.specs.Promises.{Whole, ReadyAnew, Listed}
-use Rattle.flushes.specs.Parts.{Ruled, rule_of, stays_under, leaves_under, graves}
+use Rattle.flushes.specs.Parts.{rule_of, stays_under, leaves_under, graves}
 use Rattle.flushes.proofs.Rising.{dues_rising}
 use Rattle.flushes.proofs.Staying.{past_after}
 
@@ -36,9 +36,6 @@ counted s = taken s.written.disk s.written.dated s.written.pending s.written.pas
 module _ (store : tables.Store) (page : ℕ) (a : ReadyAnew store page) where
   pub looks : LookableAnew store.written store.heads page
   looks = record { pending_count = a.counted.pending_count; past_count = a.counted.past_count; in_range = a.in_range; single = a.single }
-
-  pub ruled : (m : ℕ) → Ruled store.snapshots (rule_of store.heads page m)
-  ruled m = record { known_count = a.counted.snapshot_count; in_range = a.in_range; rising = a.rising }
 
   module _ (k : Whole store) where
     pub sized : Sized store.written

@@ -99,9 +99,6 @@ told_due st p m l n low high ages t i h k e =
 
 -- none, or those up to high
 module _ (st : Store) (p m : ℕ) (known : List ℕ) (low high : ℕ) where
-  pub listed_none : high ≤ low → ListedTo st p m known low (max low high) []
-  listed_none h = let e : max low high ≡ low = omega arith in ap (λ (j : ℕ). dues_seen st p m (drop j known)) e
-
   pub listed_high : low < high → (found : List ℕ) → ListedTo st p m known low high found → ListedTo st p m known low (max low high) found
   listed_high h found v =
       let e : max low high ≡ high = omega arith in

@@ -2,51 +2,24 @@
 use Rattle.std.specs.Prelude.{Some}
 use Prim.Native.Nat.{ℕ, ◌<◌}
 use mathlib.Core.Path.{◌≡◌, ap, ◌∙◌}
-use mathlib.Core.Bool.{Bool, true, false}
+use mathlib.Core.Bool.{Bool}
 use mathlib.Core.List.{List, ◌++◌, map}
-use native.Mathlib.Omega.{arith}
 use lib.ListN.{length, take, get_or, set}
 use lib.Seq.{get_or-set_same}
 use lib.Dec.{eqb}
-use borrow.Author.Tests.{eq-eqb, ne_eqb, eqb-true}
+use borrow.Author.Tests.{eqb-true}
 use Rattle.model.specs.declared.Pending.{Pending}
 use Rattle.model.specs.declared.Past.{Past}
 use Rattle.model.specs.Lists.{both, kept}
-use Rattle.model.specs.Store.{Store, Copy, page_of, beyond_b, mark}
+use Rattle.model.specs.Store.{Store, Copy, page_of, mark}
 use Rattle.model.specs.Changes.{of_page, buried, stays_b, copies_after, flush_store}
 use Rattle.tables.specs.Rows.{pasts}
-use Rattle.tables.specs.Lookups.{wanted_b, stays_by}
+use Rattle.tables.specs.Lookups.{stays_by}
 use Rattle.tables.proofs.Cases.{by_test}
 use Rattle.tables.proofs.Keeping.{kept_append}
-use Rattle.tables.proofs.Searches.{both_left}
 use Rattle.tables.proofs.Bridges.{kept_same}
 use Rattle.flushes.specs.Parts.{stays_at, Holding}
 use Rattle.flushes.proofs.Turns.{kept_mapped}
-
--- ---- the tests that the code makes in turn
-module _ (p m h : ℕ) (known : List ℕ) (q : Past) where
-  pub stays_other : (page_of q.object ≡ p → ⊥) → true ≡ stays_at p m h known q
-  stays_other e = rw (ne_eqb _ _ e)
-
-  module _ (e : page_of q.object ≡ p) where
-    pub stays_beyond : beyond_b h q ≡ true → true ≡ stays_at p m h known q
-    stays_beyond f = rw (eq-eqb _ _ e, f)
-
-    pub stays_wanted : beyond_b h q ≡ false → wanted_b known m q ≡ stays_at p m h known q
-    stays_wanted f = rw (eq-eqb _ _ e, f)
-
-pub both_yes : (a b : Bool) {r : Bool} → a ≡ true → r ≡ b → r ≡ both a b
-both_yes a b e q = rw e q
-
-pub both_no : (a b : Bool) → a ≡ false → false ≡ both a b
-both_no a b e = rw e
-
--- an entry of a page of the store has a place on disk
-pub on_disk : (p : ℕ) (e : Pending) → p < 32 → of_page p e ≡ true → e.object < 512
-on_disk p e h t = omega (arith, eqb-true (page_of e.object) p t)
-
-pub leaver_on_disk : (p : ℕ) (e : Pending) (b : Bool) → p < 32 → both (of_page p e) b ≡ true → e.object < 512
-leaver_on_disk p e b h t = on_disk p e h (both_left (of_page p e) b t)
 
 -- ---- marks of other pages are not looked at
 module _ (p m h : ℕ) (known : List ℕ) where

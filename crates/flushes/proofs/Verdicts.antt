@@ -1,36 +1,22 @@
 -- The verdict by counts: the tests that the code makes in turn, and that they are the model's.
-use Prim.Native.Nat.{ℕ, ◌+◌, ◌-◌, ◌≤◌, ◌<◌}
+use Prim.Native.Nat.{ℕ, ◌+◌, ◌-◌, ◌≤◌}
 use mathlib.Core.Path.{◌≡◌, refl, sym}
 use mathlib.Core.List.{List, [], ◌∷◌}
 use native.Mathlib.Omega.{arith}
 use lib.ListN.{length, length-append, length-map}
 use lib.Dec.{eqb}
-use borrow.Author.Tests.{eq-eqb, ne_eqb, lt-ltb, le-ltb}
-use Rattle.model.specs.declared.Answer.TheVariants.{PastFull, ArchiveFull}
-use Rattle.model.specs.declared.Verdict.TheVariants.{Accepted, Idle, Refused}
+use borrow.Author.Tests.{ne_eqb, le-ltb}
+use Rattle.model.specs.declared.Verdict.TheVariants.{Accepted}
 use Rattle.model.specs.Lists.{both, kept, empty_b}
 use Rattle.model.specs.Store.{Store}
 use Rattle.model.specs.Changes.{dues, of_page, copies_after, flush_store}
 use Rattle.model.specs.Judgement.{judge_flush}
 use Rattle.flushes.specs.Parts.{verdict_by}
 
-module _ (entries dues copies rows : ℕ) where
-  pub say_idle : entries + dues ≡ 0 → Idle ≡ verdict_by entries dues copies rows
-  say_idle e = rw (eq-eqb (entries + dues) 0 e)
-
-  module _ (e : entries + dues ≡ 0 → ⊥) (b : copies ≤ 128) where
-    pub say_archive : 128 - copies < dues → Refused ArchiveFull ≡ verdict_by entries dues copies rows
-    say_archive l = let m : 128 < copies + dues = omega arith in rw (ne_eqb (entries + dues) 0 e, lt-ltb 128 (copies + dues) m)
-
-    module _ (l : dues ≤ 128 - copies) where
-      fits : copies + dues ≤ 128
-      fits = omega arith
-
-      pub say_past : 256 < rows → Refused PastFull ≡ verdict_by entries dues copies rows
-      say_past r = rw (ne_eqb (entries + dues) 0 e, le-ltb 128 (copies + dues) fits, lt-ltb 256 rows r)
-
-      pub say_accepted : rows ≤ 256 → Accepted ≡ verdict_by entries dues copies rows
-      say_accepted r = rw (ne_eqb (entries + dues) 0 e, le-ltb 128 (copies + dues) fits, le-ltb 256 rows r)
+pub say_accepted : (entries dues copies rows : ℕ) → (entries + dues ≡ 0 → ⊥) → copies ≤ 128 → dues ≤ 128 - copies → rows ≤ 256 → Accepted ≡ verdict_by entries dues copies rows
+say_accepted entries dues copies rows e b l r =
+    let fits : copies + dues ≤ 128 = omega arith in
+    rw (ne_eqb (entries + dues) 0 e, le-ltb 128 (copies + dues) fits, le-ltb 256 rows r)
 
 -- ---- the model's verdict
 empty_count : {A B : Type 0} (l : List A) (m : List B) → both (empty_b l) (empty_b m) ≡ eqb (length l + length m) 0

@@ -84,9 +84,9 @@ fn list_between(
     }
     if high - low <= 8 {
         list_within(store, page, share, low, high, &mut [0; 128], due);
-        return;
+    } else {
+        list_within(store, page, share, low, high, &mut [0; 1024], due);
     }
-    list_within(store, page, share, low, high, &mut [0; 1024], due);
 }
 
 // Lists the due snapshots. None up to the mark is due, and none at or behind the newest stamp that

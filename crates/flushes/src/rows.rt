@@ -1,15 +1,17 @@
 // A page's past rows by a rule: which stay, which entries leave one, and how many there are of each.
-ghost use Rattle.std.specs.Prelude.{◌≡◌, [], ◌+◌, ◌<◌, ◌≤◌, length, take};
+ghost use Rattle.std.specs.Prelude.{◌≡◌, Bool, ℕ, [], ◌+◌, ◌<◌, ◌≤◌, length, take, get_or};
 ghost use Rattle.model.specs.Lists.{kept};
 ghost use Rattle.model.specs.Changes.{of_page};
 ghost use Rattle.tables.specs.Rows.{pending_of, past_of, pendings, pasts};
-ghost use Rattle.shares.specs.Shares.{row_of_page, NumberedAnew};
+ghost use Rattle.shares.specs.Shares.{row_of_page, rows_at, NumberedAnew};
 ghost use Rattle.flushes.specs.Parts.{Ruled, rule_of, stays_under, buried_in, leaves_under, Holding};
 
 use model::{Past, Pending};
 use tables::{Disk, Heads, PastTable, Snapshots, Store};
+use views::rows::Row;
 
 // How a page's past rows are judged: the page, its mark after the flush, the horizon, and how many snapshots are known.
+// Kept: the snapshots stand beside a rule. In it they would be a reference, with a lifetime at each use and its value in each clause.
 #[derive(Clone, Copy)]
 pub struct Rule {
     pub page: u64,
@@ -35,13 +37,9 @@ impl Rule {
         requires { Ruled snapshots.now self }
         ensures { result ≡ stays_under snapshots.now self q }
     {
-        if q.object / 16 != self.page {
-            return true;
-        }
-        if tables::lookups::beyond(q, self.horizon) {
-            return true;
-        }
-        tables::lookups::wanted(q, snapshots, self.known, self.mark)
+        q.object / 16 != self.page
+            || tables::lookups::beyond(q, self.horizon)
+            || tables::lookups::wanted(q, snapshots, self.known, self.mark)
     }
 
     // The entry is of the page, and its buried row stays.
@@ -49,11 +47,7 @@ impl Rule {
         requires { Ruled snapshots.now self }
         ensures { result ≡ leaves_under disk.now dated.now snapshots.now self e }
     {
-        if of_page(e, self.page) {
-            let q = buried(disk, dated, e);
-            return self.stays(q, snapshots);
-        }
-        false
+        of_page(e, self.page) && self.stays(buried(disk, dated, e), snapshots)
     }
 }
 
@@ -77,6 +71,22 @@ pub fn buried(disk: &Disk, dated: &Disk, e: Pending) -> Past
     }
 }
 
+// How many of the numbered rows pass a test.
+fn count<R: Row, F: Fn(R) -> bool>(t: &R::Table, numbers: &[u8], test: F) -> usize
+    requires callable { F.IsAlwaysCallable test }
+    requires inside { (j : ℕ) → j < length numbers.now → get_or numbers.now j 0 < R.room }
+    ensures passed { (p : R → Bool) → ((r : R) (b : Bool) → F.post test r b → b ≡ p r) → result ≡ length (kept p (rows_at R.blank (R.rows t.now) numbers.now)) }
+    ensures fewer { result ≤ length numbers.now }
+{
+    let mut n: usize = 0;
+    for number in numbers {
+        if test(R::at(t, usize::from(*number))) {
+            n += 1;
+        }
+    }
+    n
+}
+
 // Of the first n rows those of other pages stay, and some of those that are numbered.
 pub fn count_staying(
     past: &PastTable,
@@ -89,14 +99,8 @@ pub fn count_staying(
     requires n_bound { (n ≤ 256) × Ruled snapshots.now rule }
     ensures { (result ≡ length (kept (stays_under snapshots.now rule) (take n (pasts past.now)))) × (result ≤ n) }
 {
-    let mut staying = n - numbers.len();
-    for number in numbers {
-        let q = tables::past_at(past, *number as usize);
-        if rule.stays(q, snapshots) {
-            staying += 1;
-        }
-    }
-    staying
+    let others = n - numbers.len();
+    others + count::<Past, _>(past, numbers, |q| rule.stays(q, snapshots))
 }
 
 pub fn count_leaving(store: &Store, numbers: &[u8], rule: Rule) -> usize
@@ -105,14 +109,9 @@ pub fn count_leaving(store: &Store, numbers: &[u8], rule: Rule) -> usize
     ensures { (result ≡ length (kept (leaves_under store.now.written.disk store.now.written.dated store.now.snapshots rule) (take store.now.heads.pending (pendings store.now.written.pending)))) × (result ≤ store.now.heads.pending) }
 {
     let w = &store.written;
-    let mut leaving: usize = 0;
-    for number in numbers {
-        let e = tables::pending_at(&w.pending, *number as usize);
-        if rule.leaves(&w.disk, &w.dated, e, &store.snapshots) {
-            leaving += 1;
-        }
-    }
-    leaving
+    count::<Pending, _>(&w.pending, numbers, |e| {
+        rule.leaves(&w.disk, &w.dated, e, &store.snapshots)
+    })
 }
 
 // Keeps the rows that stay, of which the count is known; the result is it. Where all stay nothing is moved.
@@ -131,8 +130,7 @@ pub fn drop_rows(
         return n;
     }
     let mut marks = [0u64; 32];
-    let at = rule.page as usize;
-    marks[at] = rule.mark;
+    marks[rule.page as usize] = rule.mark;
     tables::dropping::drop_dead(
         past,
         n,

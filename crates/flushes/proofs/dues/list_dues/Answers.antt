@@ -1,5 +1,5 @@
 -- None is due up to the mark; then those between; none from the newest stamp on; and the last one by the current ages.
-use Prim.Native.Nat.{ℕ, ◌≤◌, ◌<◌, ◌+◌, ◌-◌}
+use Prim.Native.Nat.{ℕ, ◌≤◌, ◌+◌, ◌-◌}
 use mathlib.Core.List.{List, [], ◌++◌}
 use mathlib.Core.Path.{◌≡◌, sym, ◌∙◌}
 use native.Mathlib.Omega.{arith}
@@ -24,11 +24,6 @@ some c = omega (arith, c.if-h-eq0.false)
 
 inside : (c : After-some_beyond) → c.args.store.now.heads.snapshots ≤ length c.args.store.now.snapshots
 inside c = omega (arith, c.whole.ensures.snapshot_words, c.requires.ready.counted.snapshot_count)
-
-few : (c : After-some_beyond) → length (found c) < 64
-few c =
-    let s = c.args.store.now in
-    omega (arith, c.requires.ready.counted.snapshot_count, some c, c.list_between.ensures.upper_bound, first_inside (s.heads.snapshots - 1) s.snapshots (omega (arith, inside c)) c.first_from-high.ensures)
 
 -- those listed, with the last snapshot if it is due, are all
 listed : (c : After-some_beyond)
@@ -73,9 +68,6 @@ first_from-low-requires c = let s = c.args.store.now in
 pub first_from-high-requires : goal.first_from-high-requires
 first_from-high-requires c = let s = c.args.store.now in
     part_ordered s.heads.snapshots s.snapshots c.requires.ready.rising (omega (arith, c.whole.ensures.snapshot_words, c.requires.ready.counted.snapshot_count)) 0 (s.heads.snapshots - 1) (omega arith)
-
-pub push-requires : goal.push-requires
-push-requires c = few (goal.at.push-requires c).After-some_beyond
 
 pub returns-then-some_beyond : goal.returns-then-some_beyond
 returns-then-some_beyond c =
