@@ -4,10 +4,10 @@ use mathlib.Core.Path.{◌≡◌, refl}
 use mathlib.Core.List.{List, []}
 use native.Mathlib.Omega.{arith}
 use lib.ListN.{length}
-use lib.Dec.{ltb, leb, eqb}
-use borrow.Author.Tests.{le-leb, lt-leb, leb-true}
+use lib.Dec.{ltb, eqb}
+use borrow.Author.Tests.{lt-leb}
 use Rattle.model.specs.declared.Answer.{Answer}
-use Rattle.model.specs.declared.Answer.TheVariants.{Done, Nothing, NoRoom}
+use Rattle.model.specs.declared.Answer.TheVariants.{Nothing, NoRoom}
 use Rattle.model.specs.declared.Verdict.{Verdict}
 use Rattle.model.specs.declared.Verdict.TheVariants.{Accepted, Idle, Refused}
 use Rattle.model.specs.Answers.{code_of}
@@ -17,11 +17,9 @@ use Rattle.model.specs.Changes.{Change, commit, gossip, flush}
 use Rattle.model.specs.Judgement.{judge, judge_gossip, judge_flush}
 use Rattle.model.specs.Records.{length_of}
 use Rattle.model.specs.Calls.{reached, roomed}
-use Rattle.tables.specs.declared.Heads.{Heads}
 use Rattle.tables.specs.declared.Store as whole
 use Rattle.tables.specs.Rows.{up_to}
-use Rattle.tables.specs.Contents.{contents, stored}
-use Rattle.tables.proofs.Cases.{by_test}
+use Rattle.tables.specs.Contents.{stored}
 use Rattle.tables.proofs.Counts.{up_to_length}
 use Rattle.journal.proofs.Places.{reached_is}
 use Rattle.commits.proofs.Judged as commits

@@ -10,18 +10,15 @@ use lib.Dec.{ltb, leb}
 use borrow.Author.Tests.{not-false, le-leb, ltb-false}
 use Rattle.model.specs.Lists.{either, any_b, all_b, twice_b, rising_from}
 use Rattle.model.specs.Damage.{damaged, overfull, misnumbered, doubled, misordered}
-use Rattle.tables.specs.declared.Heads.{Heads}
 use Rattle.tables.specs.declared.Store.{Store}
-use Rattle.tables.specs.Rows.{pending_of, pendings, pasts, copy_heads, copies_of}
-use Rattle.tables.specs.Contents.{contents, stored, Laid, Counted}
+use Rattle.tables.specs.Rows.{pending_of, pendings, copy_heads, copies_of}
+use Rattle.tables.specs.Contents.{stored, Counted}
 use Rattle.tables.proofs.Bridges.{pages_in}
 use Rattle.tables.proofs.Cases.{by_test, clash}
 use Rattle.tables.proofs.Copies.{no_copy}
 use Rattle.tables.proofs.Fronts.{any_front, twice_front, rising_front}
-use Rattle.rules.proofs.Laws.{within}
-use Rattle.changes.proofs.Shapes.{both_split}
-use Rattle.damage.specs.Sifted.{Sifted, SiftedAnew}
-use Rattle.damage.proofs.Laws.{over_count, counted, damaged_over, damaged_is, tested, objects_of, lone}
+use Rattle.damage.specs.Sifted.{SiftedAnew}
+use Rattle.damage.proofs.Laws.{over_count, counted, damaged_over, lone}
 
 either_none : (a b : Bool) → either a b ≡ false → (a ≡ false) × (b ≡ false)
 either_none true b e = clash e

@@ -42,12 +42,7 @@ fn flush_page(
 }
 
 // Flushes a page: copies for the due snapshots, and its pending values to disk.
-pub fn flush_anew(
-    store: &mut Store,
-    journal: &mut [u8],
-    used: Place,
-    page: u64,
-) -> ChangedAnew
+pub fn flush_anew(store: &mut Store, journal: &mut [u8], used: Place, page: u64) -> ChangedAnew
     ensures left { Left (flush_call (stored store.old) journal.old used.at page) result.answer (stored store.new) journal.new result.place.at }
     ensures kept { FlushKept store.old store.new }
 {

@@ -1,13 +1,13 @@
 -- The index of the entries, made anew: 128 for each object, then each entry's row, where no two entries are of one object.
 use Rattle.std.specs.Prelude.{None}
-use Prim.Native.Nat.{ℕ, zero, suc, ◌+◌, ◌<◌, ◌≤◌}
+use Prim.Native.Nat.{ℕ, zero, suc, ◌+◌, ◌<◌}
 use mathlib.Core.Path.{◌≡◌, refl, ap, sym, ◌∙◌, subst}
 use mathlib.Core.List.{List, [], ◌∷◌}
 use native.Mathlib.Omega.{arith}
-use lib.ListN.{length, take, get_or, set, replicate, get_or-eq_default}
-use lib.Seq.{get_or-take, get_or-set_same, get_or-set_other}
-use lib.Dec.{eqb, ltb}
-use borrow.Author.Tests.{eqb-true, eqb-false, ltb-true, ltb-false, eq-eqb, ne_eqb}
+use lib.ListN.{length, take, get_or, set, replicate}
+use lib.Seq.{get_or-take}
+use lib.Dec.{eqb}
+use borrow.Author.Tests.{eq-eqb, ne_eqb}
 use Rattle.model.specs.declared.Pending.{Pending}
 use Rattle.model.specs.Store.{none, some, lookup}
 use Rattle.tables.specs.Rows.{pending_of, pending_at}

@@ -1,10 +1,7 @@
 -- Heads of 0 with two cleared disks hold the fresh store.
-use Prim.Native.Nat.{ℕ, ◌≤◌, ◌<◌}
-use mathlib.Core.Path.{◌≡◌, sym, ◌∙◌}
+use Prim.Native.Nat.{ℕ}
+use mathlib.Core.Path.{◌≡◌}
 use mathlib.Core.List.{List}
-use native.Mathlib.Omega.{arith}
-use lib.ListN.{length, get_or, replicate, length-replicate, get_or-replicate}
-use lib.Seq.{ext_get_or}
 use Rattle.model.specs.Store.{fresh}
 use Rattle.tables.specs.Contents.{contents}
 use Rattle.restart.specs.Turns.{zeros}
