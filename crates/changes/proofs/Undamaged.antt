@@ -20,8 +20,8 @@ use Rattle.tables.proofs.Copies.{no_copy}
 use Rattle.tables.proofs.Fronts.{any_front, twice_front, rising_front}
 use Rattle.rules.proofs.Laws.{within}
 use Rattle.changes.proofs.Shapes.{both_split}
-use Rattle.damage.specs.Sifted.{Sifted, SiftedAnew}
-use Rattle.damage.proofs.Laws.{over_count, counted, damaged_over, damaged_is, tested, objects_of, lone}
+use Rattle.damage.specs.Sifted.{SiftedAnew}
+use Rattle.damage.proofs.Laws.{over_count, counted, damaged_over, lone}
 
 either_none : (a b : Bool) → either a b ≡ false → (a ≡ false) × (b ≡ false)
 either_none true b e = clash e
