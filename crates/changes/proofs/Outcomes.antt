@@ -19,7 +19,7 @@ use Rattle.model.specs.Judgement.{shaped, twice, judge}
 use Rattle.model.specs.Calls.{journal_shaped, roomed, reached, answer_to, outcome, change}
 use Rattle.journal.specs.Places.{Appended}
 use Rattle.changes.specs.Left.{Left}
-use Rattle.changes.proofs.Rooms.{Sober, sober, settled_sober, Taken, zero_taken}
+use Rattle.changes.proofs.Rooms.{Sober, sober, settled_sober}
 
 -- ---- an answer decides what is left
 module _ (st : Store) (j : List ℕ) (used : ℕ) (c : Change) (a : Answer) where
