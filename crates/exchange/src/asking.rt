@@ -7,8 +7,6 @@ use model::Answer;
 use requests::Request;
 use tables::Store;
 
-pub use crate::lent::ask;
-
 // The request from the horizon to a stamp, at the buffer's front.
 pub fn ask_anew(store: &Store, to: u64, buffer: &mut [u8]) -> Answer
     ensures { Read (model.ask (stored store.now) to buffer.old) result buffer.new }

@@ -14,8 +14,6 @@ use journal::walk::GossipHead;
 use model::Answer;
 use tables::Store;
 
-pub use crate::lent::hear;
-
 // The number of eight bytes, read as two of four: the compiler makes one load of it.
 fn word_at(bytes: &[u8], at: usize) -> u64
     requires { at + 8 ≤ length bytes.now }
@@ -27,7 +25,7 @@ fn word_at(bytes: &[u8], at: usize) -> u64
 }
 
 // One whole record of kind 2 and nothing else, of at most sixteen stamps, whatever they are.
-pub fn framed(bytes: &[u8]) -> bool
+fn framed(bytes: &[u8]) -> bool
     ensures { result ≡ framed_b bytes.now }
 {
     if bytes.len() < STAMPS_AT {
@@ -59,7 +57,7 @@ fn read_stamps(bytes: &[u8], out: &mut [u64])
 
 // The head of a message that has a frame, and its stamps, unjudged, at the list's front. The two numbers are read last: before the loop the compiler would
 // load them byte by byte.
-pub fn read_message(bytes: &[u8], stamps: &mut [u64]) -> GossipHead
+fn read_message(bytes: &[u8], stamps: &mut [u64]) -> GossipHead
     requires { (framed_b bytes.now ≡ true) × (length stamps.old ≡ 16) }
     ensures { Spoken bytes.now result stamps.new }
 {

@@ -3,4 +3,3 @@
 
 pub mod asking;
 pub mod hearing;
-mod lent;

@@ -1,4 +1,3 @@
-pub mod Before
 pub mod Undamaged
 pub mod Served
 pub mod Answers

@@ -1,8 +1,6 @@
 // The reads of the store, standing and known. None requires anything: each refuses what it can't answer.
 #![tactic(auto)]
 
-mod lent;
-
 ghost use Rattle.std.specs.Prelude.{◌≡◌, true, false, ◌≤◌, length, take, pos, ◌-ℤ◌, IfOk};
 ghost use Rattle.model.specs.Lists.{rising_from};
 ghost use Rattle.model.specs.Store.{page_as_of};
