@@ -20,7 +20,7 @@ use Rattle.tables.proofs.Bridges.{opened}
 use Rattle.tables.proofs.Cases.{by_test, clash}
 use Rattle.tables.proofs.Counts.{up_to_length, up_to_take}
 use Rattle.commits.specs.Rows.{new_b, new_in}
-use Rattle.commits.specs.Promises.{Room, AppliedAnew, with_pending, stamped, opened_all, grown}
+use Rattle.commits.specs.Promises.{Room, AppliedAnew, with_pending, stamped, opened_all}
 use Rattle.commits.proofs.Distinct.{once_rest, map_off, lookup_other}
 
 opened_length : (t : ℕ) (os vs : List ℕ) → length (opened_all t os vs) ≤ length os
@@ -95,13 +95,6 @@ new_room h t os vs e c s d disk dated pending past snapshots copies copied =
       past_room = rw (a, up_to_length (past_of []) h.past (pasts past)) c.past_count;
     }
 
--- and the past values are as they were
-pub past_kept : (t : ℕ) (os vs : List ℕ) (pending past : List (List ℕ)) (snapshots : List ℕ) (copies : List (List ℕ)) (copied disk dated : List ℕ) (h : Heads) → h.pending ≡ 0 → twice_b os ≡ false
-    → (commit_store (contents disk dated pending past snapshots copies copied h) t (paired os vs)).past ≡ up_to (past_of []) h.past (pasts past)
-unfolding last_at
-past_kept t os vs pending past snapshots copies copied disk dated h e d =
-    ap (λ st. st.past) (commit_new t os vs (contents disk dated pending past snapshots copies copied h) (none_pending pending h e) d)
-
 -- ---- the loop: the entries of the first k writes, with those to come, are all
 module _ (t : ℕ) (os vs : List ℕ) where
   abbrev pub Adding : List Pending → ℕ → Type 0
@@ -118,16 +111,6 @@ module _ (t : ℕ) (os vs : List ℕ) where
 
     pub adding_all : length os ≡ k → k ≤ length ps → up_to (pending_of []) (length os) ps ≡ opened_all t os vs
     adding_all e b = rw e (up_to_take (pending_of []) k ps b ∙ adding_taken (omega arith))
-
-  -- at its end the tables hold the store after the commit
-  pub added_all : (pending₀ pending : List (List ℕ)) (h : Heads) (k : ℕ) → Adding (pendings pending) k → h.pending ≡ 0 → twice_b os ≡ false → length os ≤ k → k ≤ length (pendings pending)
-      → (disk dated : List ℕ) (past : List (List ℕ)) (snapshots : List ℕ) (copies : List (List ℕ)) (copied : List ℕ)
-      → contents disk dated pending past snapshots copies copied (grown h (record { pending = k; last = t; past = h.past }))
-      ≡ commit_store (contents disk dated pending₀ past snapshots copies copied h) t (paired os vs)
-  unfolding last_at
-  added_all pending₀ pending h k w e d b c disk dated past snapshots copies copied =
-      let st = contents disk dated pending₀ past snapshots copies copied h in
-      ap (holding (last_at st t)) (up_to_take (pending_of []) k (pendings pending) c ∙ adding_taken (pendings pending) k w b) ∙ sym (commit_new t os vs st (none_pending pending₀ h e) d)
 
   -- the store after the commit holds them
   pub entered_all : {s : tables.Store} → s.heads.pending ≡ 0 → Counted s.heads → length os ≤ 16 → twice_b os ≡ false → (pending : List (List ℕ)) → up_to (pending_of []) (length os) (pendings pending) ≡ opened_all t os vs

@@ -16,17 +16,8 @@ Counts f xs k a = a + trues (map f (drop k xs)) ≡ trues (map f xs)
 
 module _ {A : Type 0} (f : A → Bool) (xs : List A) (k a : ℕ) (v : Counts f xs k a) where
   module _ (d : A) (l : k < length xs) {b : Bool} (e : b ≡ f (get_or xs k d)) where
-    pub counts_one : b ≡ true → Counts f xs (k + 1) (a + 1)
-    counts_one t = rw (add-one k) (omega (arith, rw (drop-cons xs k d l, sym e ∙ t) at v))
-
-    pub counts_none : b ≡ false → Counts f xs (k + 1) a
-    counts_none t = rw (add-one k) (omega (arith, rw (drop-cons xs k d l, sym e ∙ t) at v))
-
     pub counts_by : {a' : ℕ} → a' ≡ a + one_if b → Counts f xs (k + 1) a'
     counts_by m = rw (add-one k) (omega (arith, ap one_if e, rw (drop-cons xs k d l) at v))
-
-  pub counts_all : length xs ≤ k → a ≡ trues (map f xs)
-  counts_all l = omega (arith, rw (drop_of_length-le xs l) at v)
 
 pub trues_few : {A : Type 0} (f : A → Bool) (xs : List A) → trues (map f xs) ≤ length xs
 trues_few f [] = omega arith

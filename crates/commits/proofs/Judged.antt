@@ -24,8 +24,8 @@ use Rattle.tables.specs.Contents.{contents, stored, Counted}
 use Rattle.tables.proofs.Cases.{by_test}
 use Rattle.tables.proofs.Counts.{up_to_length}
 use Rattle.tables.proofs.Searches.{both_left, both_right}
-use Rattle.commits.specs.Rows.{trues, new_in, live_in, live_by, displaces_in}
-use Rattle.commits.specs.Promises.{Ready, Room}
+use Rattle.commits.specs.Rows.{trues, new_in, live_in, displaces_in}
+use Rattle.commits.specs.Promises.{Room}
 use Rattle.commits.proofs.Counting.{trues_few}
 use Rattle.commits.proofs.Growth.{pending_growth, past_growth}
 use Rattle.commits.proofs.Finding.{pending_taken}
@@ -52,80 +52,6 @@ module _ (st : Store) (t : ℕ) (ws : List Write) where
       say_accepted : length (commit_store st t ws).past ≤ 256 → Accepted ≡ judge_commit st t ws
       unfolding judge_commit
       say_accepted q = rw (lt-leb t st.last l, lt-leb t st.horizon h, le-ltb 128 _ p, le-ltb 256 _ q)
-
--- ---- the lengths that a commit would leave, by the counts that the code makes; and the verdict by them
-module _ {pending : List (List ℕ)} {snapshots : List ℕ} {copies : List (List ℕ)} {h : Heads} {os index : List ℕ} (r : Ready pending snapshots copies h os index) (t : ℕ) where
-  abbrev entries : List Pending
-  entries = up_to (pending_of []) h.pending (pendings pending)
-
-  as_taken : entries ≡ take h.pending (pendings pending)
-  as_taken = pending_taken pending h r.pending_rows r.counted
-
-  abbrev news : ℕ
-  news = trues (map (new_in (take h.pending (pendings pending))) os)
-
-  abbrev olds : List ℕ → ℕ
-  olds copied = trues (map (displaces_in (live_by snapshots copies copied h) t (take h.pending (pendings pending))) os)
-
-  module _ (disk dated : List ℕ) (past : List (List ℕ)) (copied vs : List ℕ) (l : length vs ≡ length os) where
-    abbrev before : Store
-    before = contents disk dated pending past snapshots copies copied h
-
-    pub left_pending : length (commit_store before t (paired os vs)).pending ≡ h.pending + news
-    unfolding last_at
-    left_pending =
-        let n : length entries ≡ h.pending = up_to_length (pending_of []) h.pending (pendings pending) in
-        let g : length (commit_store before t (paired os vs)).pending ≡ length entries + trues (map (new_in entries) os) =
-        pending_growth t os vs (last_at before t) l r.once in
-        rw (← as_taken) (omega arith)
-
-    pub left_past : length (commit_store before t (paired os vs)).past ≡ h.past + olds copied
-    unfolding last_at
-    left_past =
-        let n : length before.past ≡ h.past = up_to_length (past_of []) h.past (pasts past) in
-        let g : length (commit_store before t (paired os vs)).past ≡ length before.past + trues (map (displaces_in (live_by snapshots copies copied h) t entries) os) =
-        past_growth t os vs (last_at before t) l r.once in
-        rw (← as_taken) (omega arith)
-
-    -- each write adds one of each at most
-    pub roomy_room : both (leb (h.pending + length os) 128) (leb (h.past + length os) 256) ≡ true → Room (commit_store before t (paired os vs))
-    roomy_room e =
-        let p = leb-true (h.pending + length os) 128 (both_left (leb (h.pending + length os) 128) (leb (h.past + length os) 256) e) in
-        let q = leb-true (h.past + length os) 256 (both_right (leb (h.pending + length os) 128) (leb (h.past + length os) 256) e) in
-        let n = trues_few (new_in (take h.pending (pendings pending))) os in
-        let o = trues_few (displaces_in (live_by snapshots copies copied h) t (take h.pending (pendings pending))) os in
-        record { pending_room = omega (arith, left_pending); past_room = omega (arith, left_past) }
-
-  -- a verdict on the commit, whatever the tables that the code isn't lent
-  abbrev Says : Verdict → Type 0
-  Says v = (disk dated : List ℕ) (past : List (List ℕ)) (copied vs : List ℕ) → length vs ≡ length os
-      → v ≡ judge_commit (contents disk dated pending past snapshots copies copied h) t (paired os vs)
-
-  module _ {latest : ℕ} (late : latest ≡ max h.last h.horizon) where
-    pub judged_late : t ≤ latest → Says (Refused (Late latest))
-    judged_late b disk dated past copied vs l =
-        ap (λ n. Refused (Late n)) late ∙ say_late (before disk dated past copied vs l) t (paired os vs) (omega arith)
-
-    module _ (b : latest < t) {n : ℕ} (e : n ≡ news) where
-      pub judged_pending : 128 - h.pending < n → Says (Refused PendingFull)
-      judged_pending f disk dated past copied vs l =
-          let x = left_pending disk dated past copied vs l in
-          say_pending (before disk dated past copied vs l) t (paired os vs) (omega arith) (omega arith) (omega arith)
-
-      module _ (f : n ≤ 128 - h.pending) {m : ℕ} (d : (copied : List ℕ) → m ≡ olds copied) where
-        pub judged_past : 256 - h.past < m → Says (Refused PastFull)
-        judged_past g disk dated past copied vs l =
-            let c = r.counted in
-            let x = left_pending disk dated past copied vs l in
-            let y = left_past disk dated past copied vs l in
-            say_past (before disk dated past copied vs l) t (paired os vs) (omega arith) (omega arith) (omega arith) (omega (arith, d copied))
-
-        pub judged_accepted : m ≤ 256 - h.past → Says Accepted
-        judged_accepted g disk dated past copied vs l =
-            let c = r.counted in
-            let x = left_pending disk dated past copied vs l in
-            let y = left_past disk dated past copied vs l in
-            say_accepted (before disk dated past copied vs l) t (paired os vs) (omega arith) (omega arith) (omega arith) (omega (arith, d copied))
 
 -- ---- over the whole store: the lengths that a commit would leave, and the verdict by them
 module _ (s : whole.Store) (t : ℕ) (os : List ℕ) where
@@ -183,20 +109,6 @@ roomy_room_anew s t os vs d l e =
       pending_room = omega (arith, pending_growth t os vs (last_at st t) l d);
       past_room = omega (arith, past_growth t os vs (last_at st t) l d);
     }
-
--- ---- the same where there is room, whatever the tables
-module _ (h : Heads) (t : ℕ) {latest : ℕ} (late : latest ≡ max h.last h.horizon) where
-  abbrev SaysRoomy : Verdict → Type 0
-  SaysRoomy v = (disk dated : List ℕ) (pending past : List (List ℕ)) (snapshots : List ℕ) (copies : List (List ℕ)) (copied : List ℕ) (ws : List Write)
-      → Room (commit_store (contents disk dated pending past snapshots copies copied h) t ws) → v ≡ judge_commit (contents disk dated pending past snapshots copies copied h) t ws
-
-  pub roomy_late : t ≤ latest → SaysRoomy (Refused (Late latest))
-  roomy_late b disk dated pending past snapshots copies copied ws m =
-      ap (λ n. Refused (Late n)) late ∙ say_late (contents disk dated pending past snapshots copies copied h) t ws (omega arith)
-
-  pub roomy_accepted : latest < t → SaysRoomy Accepted
-  roomy_accepted b disk dated pending past snapshots copies copied ws m =
-      say_accepted (contents disk dated pending past snapshots copies copied h) t ws (omega arith) (omega arith) m.pending_room m.past_room
 
 -- ---- what a verdict tells
 abbrev Told : Store → ℕ → List Write → Verdict → Type 0

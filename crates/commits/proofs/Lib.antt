@@ -3,10 +3,7 @@ pub mod AllNew
 pub mod Growth
 pub mod Counting
 pub mod Finding
-pub mod OneWrite
-pub mod Writing
 pub mod Judged
 pub mod Displacing
 pub mod Steps
 pub mod Commit
-pub mod Whole

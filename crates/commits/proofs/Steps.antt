@@ -39,9 +39,6 @@ module _ (s : Store) (q : Past) where
         same = refl;
       }
 
-  pub added_no : live_in (stored s) q ≡ false → s.heads.past ≤ 256 → AddedAnew s s q
-  added_no e m = record { contains = rw e; count = m; same = refl }
-
 module _ (s : Store) (p : length (pendings s.written.pending) ≡ 128) (c : Counted s.heads) (t o v : ℕ) where
   -- ---- where the object has an entry
   module _ (row : ℕ) (f : find_pending o (entries s) ≡ Some row) where

@@ -1,4 +1,4 @@
--- What the judge and the writer of a commit ask and promise. The tables that a function isn't lent may be any.
+-- What the judge and the writer of a commit ask and promise.
 use Rattle.std.specs.Prelude.{ℕ, ◌≤◌, ◌≡◌, true, false, List, [], ◌∷◌, length, take, ltb}
 use Rattle.model.specs.declared.Pending.{Pending}
 use Rattle.model.specs.declared.Past.{Past}
@@ -10,65 +10,14 @@ use Rattle.tables.specs.declared.Store.{Store}
 use Rattle.tables.specs.Rows.{past_of, pending_at, pendings, pasts, copy_heads, up_to}
 use Rattle.tables.specs.Lookups.{find_pending, row_of, Indexed}
 use Rattle.tables.specs.Contents.{contents, stored, Counted}
-use Rattle.commits.specs.declared.Grown.{Grown}
-use Rattle.commits.specs.Rows.{live_in, live_by}
-
--- whole tables, counts within them, ascending snapshots, a well-formed list of objects, and an index of the entries
-pub record Ready (pending : List (List ℕ)) (snapshots : List ℕ) (copies : List (List ℕ)) (h : Heads) (os index : List ℕ) : Type 0 where
-  pub pending_rows : length (pendings pending) ≡ 128
-  pub snapshot_words : length snapshots ≡ 64
-  pub copy_rows : length (copy_heads copies) ≡ 128
-  pub counted : Counted h
-  pub rising : rising_from 0 (take h.snapshots snapshots) ≡ true
-  pub short : length os ≤ 16
-  pub once : twice_b os ≡ false
-  pub in_range : all_b (λ o. ltb o 512) os ≡ true
-  pub indexed : Indexed index (take h.pending (pendings pending))
-
--- the same for one object, and the row of its entry
-pub record OneReady (pending : List (List ℕ)) (snapshots : List ℕ) (copies : List (List ℕ)) (h : Heads) (o row : ℕ) : Type 0 where
-  pub pending_rows : length (pendings pending) ≡ 128
-  pub snapshot_words : length snapshots ≡ 64
-  pub copy_rows : length (copy_heads copies) ≡ 128
-  pub counted : Counted h
-  pub rising : rising_from 0 (take h.snapshots snapshots) ≡ true
-  pub found : row ≡ row_of (find_pending o (take h.pending (pendings pending)))
+use Rattle.commits.specs.Rows.{live_in}
 
 -- the store fits the two tables that a commit adds to
 pub record Room (st : model.Store) : Type 0 where
   pub pending_room : length st.pending ≤ 128
   pub past_room : length st.past ≤ 256
 
-pub record Applied (pending past pending' past' : List (List ℕ)) (snapshots : List ℕ) (copies : List (List ℕ)) (h h' : Heads) (t : ℕ) (ws : List Write) : Type 0 where
-  pub contains : (disk dated copied : List ℕ)
-      → contents disk dated pending' past' snapshots copies copied h' ≡ commit_store (contents disk dated pending past snapshots copies copied h) t ws
-  pub pending_rows : length (pendings pending') ≡ 128
-  pub past_rows : length (pasts past') ≡ 256
-  pub counted : Counted h'
-
--- the heads h with the counts and the last commit that a commit leaves
-abbrev pub grown : Heads → Grown → Heads
-grown h g = record { pending = g.pending; past = g.past; snapshots = h.snapshots; copies = h.copies; horizon = h.horizon; last = g.last }
-
--- the same of one write, which moves the two counts alone
-pub record Wrote (pending past pending' past' : List (List ℕ)) (snapshots : List ℕ) (copies : List (List ℕ)) (h h' : Heads) (t o v : ℕ) : Type 0 where
-  pub contains : (disk dated copied : List ℕ)
-      → contents disk dated pending' past' snapshots copies copied h' ≡ write_one (contents disk dated pending past snapshots copies copied h) t o v
-  pub pending_rows : length (pendings pending') ≡ 128
-  pub past_rows : length (pasts past') ≡ 256
-  pub counted : Counted h'
-  pub same : h' ≡ grown h (record { pending = h'.pending; last = h.last; past = h'.past })
-
--- what the past values hold once one is added if live, and their count
-abbrev pub past_with : List (List ℕ) → List ℕ → List (List ℕ) → List ℕ → Heads → Past → List Past
-past_with past snapshots copies copied h q = add_if (live_by snapshots copies copied h q) (up_to (past_of []) h.past (pasts past)) q
-
-pub record Added (past past' : List (List ℕ)) (snapshots : List ℕ) (copies : List (List ℕ)) (h : Heads) (n : ℕ) (q : Past) : Type 0 where
-  pub contains : (copied : List ℕ) → up_to (past_of []) n (pasts past') ≡ past_with past snapshots copies copied h q
-  pub past_rows : length (pasts past') ≡ 256
-  pub count : n ≤ 256
-
--- ---- over the whole store. Counts within the tables, ascending snapshots, a well-formed list of objects, and an index of the entries
+-- counts within the tables, ascending snapshots, a well-formed list of objects, and an index of the entries
 pub record ReadyAnew (store : Store) (os index : List ℕ) : Type 0 where
   pub counted : Counted store.heads
   pub rising : rising_from 0 (take store.heads.snapshots store.snapshots) ≡ true

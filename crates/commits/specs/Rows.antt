@@ -24,12 +24,9 @@ new_b (some e) = false
 abbrev pub new_in : List Pending → ℕ → Bool
 new_in es o = new_b (lookup o es)
 
--- live by a store's horizon, snapshots and copies; by the lent tables, whatever words the copies hold
+-- live by a store's horizon, snapshots and copies
 abbrev pub live_in : Store → Past → Bool
 live_in st = live_b st.horizon st.snapshots st.copies
-
-abbrev pub live_by : List ℕ → List (List ℕ) → List ℕ → Heads → Past → Bool
-live_by snapshots copies copied h = live_in (contents [] [] [] [] snapshots copies copied h)
 
 -- the object's entry is displaced by a live past value
 abbrev pub displaces_b : (Past → Bool) → ℕ → ℕ → Slot → Bool

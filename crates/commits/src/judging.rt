@@ -133,3 +133,15 @@ pub fn judge_with_room_anew(store: &Store, t: u64) -> Verdict
     }
     Verdict::Accepted
 }
+
+// A commit of so many writes fits, whatever they add.
+pub fn roomy(h: Heads, count: usize) -> bool
+    requires { Counted h × (count ≤ 16) }
+    ensures { result ≡ both (leb (h.pending + count) 128) (leb (h.past + count) 256) }
+{
+    if h.pending + count <= 128 {
+        h.past + count <= 256
+    } else {
+        false
+    }
+}

@@ -1,4 +1,4 @@
--- What a test keeps of the rows ahead: after one row more, and at the end. And a row written behind those known.
+-- A list from a place on, and new stamps written behind those known.
 use Prim.Native.Nat.{ℕ, ◌+◌, ◌-◌, ◌<◌, ◌≤◌}
 use mathlib.Core.Path.{◌≡◌, ap, ◌∙◌}
 use mathlib.Core.Bool.{Bool, true, false}
@@ -9,16 +9,6 @@ use lib.Seq.{drop-cons, take-length}
 use borrow.Rule.Slice.PartMut.{put_mid}
 use Rattle.std.proofs.lemmas.Slice.{take-put_mid}
 use Rattle.model.specs.Lists.{kept}
-
-module _ (f : ℕ → Bool) (l : List ℕ) (i : ℕ) (h : i < length l) where
-  pub ahead_yes : f (get_or l i 0) ≡ true → kept f (drop i l) ≡ get_or l i 0 ∷ kept f (drop (i + 1) l)
-  ahead_yes e = rw (add-one, drop-cons l i 0, e)
-
-  pub ahead_no : f (get_or l i 0) ≡ false → kept f (drop i l) ≡ kept f (drop (i + 1) l)
-  ahead_no e = rw (add-one, drop-cons l i 0, e)
-
-pub ahead_end : (f : ℕ → Bool) (l : List ℕ) (i : ℕ) → length l ≤ i → kept f (drop i l) ≡ []
-ahead_end f l i h = rw (drop_of_length-le l h)
 
 -- a list from a place on, as the code slices it
 pub rest : (l : List ℕ) (r : ℕ) → take (length l - r) (drop r l) ≡ drop r l

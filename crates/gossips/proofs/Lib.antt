@@ -4,4 +4,3 @@ pub mod Comparing
 pub mod Saying
 pub mod Judged
 pub mod Applying
-pub mod Whole

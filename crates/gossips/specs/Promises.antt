@@ -1,4 +1,4 @@
--- What the writer of a gossip message asks and promises. The tables that it isn't lent may be any.
+-- What the writer of a gossip message asks and promises.
 use Rattle.std.specs.Prelude.{ℕ, ◌+◌, ◌≤◌, ◌≡◌, true, List, [], ◌∷◌, ◌++◌, length, take, drop, ltb, leb, Option, Some, None}
 use Rattle.model.specs.Lists.{all_b, kept, rising_from}
 use Rattle.model.specs.Store.{live_b}
@@ -25,31 +25,7 @@ pub record Added (snapshots snapshots' : List ℕ) (n r horizon : ℕ) (stamps :
   pub count : r ≡ n + length (kept (ltb horizon) stamps)
   pub words : length snapshots' ≡ 64
 
--- of the first n past values the r live ones are left, by the first m copies
-pub record Dropped (past past' : List (List ℕ)) (n r : ℕ) (known : List ℕ) (copies : List (List ℕ)) (m horizon : ℕ) : Type 0 where
-  pub live : (words : List ℕ) → take r (pasts past') ≡ kept (live_b horizon known (take m (copies_of (copy_heads copies) words))) (take n (pasts past))
-  pub count : r ≤ n
-  pub past_rows : length (pasts past') ≡ 256
-
 -- the stamps ascend, and so do the known snapshots with the new ones behind them
-pub record Ready (past : List (List ℕ)) (snapshots : List ℕ) (copies : List (List ℕ)) (h : Heads) (stamps : List ℕ) : Type 0 where
-  pub past_rows : length (pasts past) ≡ 256
-  pub snapshot_words : length snapshots ≡ 64
-  pub copy_rows : length (copy_heads copies) ≡ 128
-  pub counted : Counted h
-  pub pages_in : all_b (λ c. ltb c.page 32) (take h.copies (copy_heads copies)) ≡ true
-  pub room : h.snapshots + length (kept (ltb h.horizon) stamps) ≤ 64
-  pub stamps_rise : rising_from 0 stamps ≡ true
-  pub rising : rising_from 0 (take h.snapshots snapshots ++ kept (ltb h.horizon) stamps) ≡ true
-
-pub record Applied (past past' : List (List ℕ)) (snapshots snapshots' : List ℕ) (copies : List (List ℕ)) (h h' : Heads) (curr : ℕ) (stamps : List ℕ) : Type 0 where
-  pub contains : (disk dated : List ℕ) (pending : List (List ℕ)) (copied : List ℕ)
-      → contents disk dated pending past' snapshots' copies copied h' ≡ gossip_store (contents disk dated pending past snapshots copies copied h) curr stamps
-  pub past_rows : length (pasts past') ≡ 256
-  pub snapshot_words : length snapshots' ≡ 64
-  pub counted : Counted h'
-
--- ---- over the whole store. The stamps ascend, and so do the known snapshots with the new ones behind them
 pub record ReadyAnew (store : Store) (stamps : List ℕ) : Type 0 where
   pub counted : Counted store.heads
   pub pages_in : all_b (λ c. ltb c.page 32) (take store.heads.copies (copy_heads store.copies)) ≡ true

@@ -6,11 +6,11 @@ ghost use Rattle.model.specs.Store as model;
 ghost use Rattle.model.specs.Lists.{both, all_b, kept, rising_from};
 ghost use Rattle.model.specs.Judgement.{compared, judge_gossip};
 ghost use Rattle.tables.specs.Rows.{pasts, copy_heads};
-ghost use Rattle.tables.specs.Contents.{contents, stored, Counted};
-ghost use Rattle.gossips.specs.Promises.{differing_in, Told, LivesOn, Added, Dropped, Ready, ReadyAnew, Applied, AppliedAnew};
+ghost use Rattle.tables.specs.Contents.{stored, Counted};
+ghost use Rattle.gossips.specs.Promises.{differing_in, Told, LivesOn, Added, ReadyAnew, AppliedAnew};
 
 use model::{Answer, Verdict};
-use tables::{CopyTable, Heads, PastTable, Snapshots, Store, Written};
+use tables::{Snapshots, Store, Written};
 
 // The stamp at a place, where it is up to a bound: behind one beyond the bound all are.
 fn told(stamps: &[u64], upto: u64, i: usize) -> Option<u64>
@@ -33,11 +33,10 @@ fn differing(known: &[u64], prev: u64, upto: u64, stamps: &[u64]) -> Option<u64>
 {
     let heard = &known[count_known(known, prev)..];
     for (i, y) in heard.iter().enumerate() {
-        let x = told(stamps, upto, i);
         if upto < *y {
-            return x;
+            return told(stamps, upto, i);
         }
-        match x {
+        match told(stamps, upto, i) {
             None => return Some(*y),
             Some(x) => {
                 if x != *y {
@@ -98,20 +97,6 @@ fn judge(known: &[u64], horizon: u64, prev: u64, curr: u64, stamps: &[u64]) -> V
     Verdict::Accepted
 }
 
-// What the store says of the message: Gap, Conflict, nothing new, Snapshots full, or accepted.
-pub fn judge_gossip(
-    snapshots: &Snapshots,
-    h: Heads,
-    prev: u64,
-    curr: u64,
-    stamps: &[u64],
-) -> Verdict
-    requires { (length snapshots.now ≡ 64) × (h.snapshots ≤ 64) × (length stamps.now ≤ 16) × (rising_from prev stamps.now ≡ true) × (rising_from 0 (take h.snapshots snapshots.now) ≡ true) }
-    ensures { (disk dated : List ℕ) (pending past copies : List (List ℕ)) (copied : List ℕ) → result ≡ judge_gossip (contents disk dated pending past snapshots.now copies copied h) prev curr stamps.now }
-{
-    judge(&snapshots[..h.snapshots], h.horizon, prev, curr, stamps)
-}
-
 // Writes the stamps beyond the horizon behind the first n snapshots; the result is the new count.
 fn add_known(snapshots: &mut Snapshots, n: usize, horizon: u64, stamps: &[u64]) -> usize
     requires { (length snapshots.old ≡ 64) × (n + length (kept (ltb horizon) stamps.now) ≤ 64) × (rising_from 0 stamps.now ≡ true) }
@@ -121,51 +106,6 @@ fn add_known(snapshots: &mut Snapshots, n: usize, horizon: u64, stamps: &[u64]) 
     let known = n + new.len();
     snapshots[n..known].copy_from_slice(new);
     known
-}
-
-// Dead past values go, those of every page; the result is the count of the others.
-fn drop_rows(
-    past: &mut PastTable,
-    n: usize,
-    snapshots: &Snapshots,
-    known: usize,
-    copies: &CopyTable,
-    m: usize,
-    horizon: u64,
-) -> usize
-    requires { (n ≤ 256) × (length (pasts past.old) ≡ 256) × (known ≤ 64) × (length snapshots.now ≡ 64) × (m ≤ 128) × (length (copy_heads copies.now) ≡ 128) × (all_b (λ c. ltb c.page 32) (take m (copy_heads copies.now)) ≡ true) × (rising_from 0 (take known snapshots.now) ≡ true) }
-    ensures { Dropped past.old past.new n result (take known snapshots.now) copies.now m horizon }
-{
-    if n == 0 {
-        return 0;
-    }
-    let mut marks = [0u64; 32];
-    tables::lookups::marks_of(copies, m, &mut marks);
-    tables::dropping::drop_dead(past, n, None, horizon, snapshots, known, &marks)
-}
-
-// Stamps beyond the horizon become known, the horizon moves, and dead past values go.
-pub fn apply_gossip(
-    past: &mut PastTable,
-    snapshots: &mut Snapshots,
-    copies: &CopyTable,
-    h: Heads,
-    curr: u64,
-    stamps: &[u64],
-) -> Heads
-    requires { Ready past.old snapshots.old copies.now h stamps.now }
-    ensures { Applied past.old past.new snapshots.old snapshots.new copies.now h result curr stamps.now }
-{
-    let known = add_known(snapshots, h.snapshots, h.horizon, stamps);
-    let rows = drop_rows(past, h.past, snapshots, known, copies, h.copies, curr);
-    Heads {
-        pending: h.pending,
-        past: rows,
-        snapshots: known,
-        copies: h.copies,
-        horizon: curr,
-        last: h.last,
-    }
 }
 
 // What the store says of the message: Gap, Conflict, nothing new, Snapshots full, or accepted.
@@ -208,7 +148,7 @@ fn drop_past(store: &mut Store, horizon: u64)
     store.heads.past = tables::dropping::drop_dead(
         &mut store.written.past,
         store.heads.past,
-        None,
+        32,
         horizon,
         &store.snapshots,
         store.heads.snapshots,

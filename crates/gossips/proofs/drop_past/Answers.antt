@@ -1,7 +1,7 @@
 -- With no rows none is dropped; else the compaction by the marks of the copies drops what is dead by the copies.
 use borrow.Author.Rules.{rules}
 use Rattle.tables.proofs.Rows.{copies_length}
-use Rattle.gossips.proofs.Whole.{none_live, lives_on}
+use Rattle.gossips.proofs.Applying.{none_live, lives_on}
 use Rattle.gossips.proofs.drop_past.Goals as goal
 
 pub returns-then-store-eq0 : goal.returns-then-store-eq0

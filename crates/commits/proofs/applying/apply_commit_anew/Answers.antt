@@ -26,14 +26,6 @@ pub row_of-requires : goal.row_of-requires
 row_of-requires c = omega (arith, object_low c.loop-object.invariant c.requires.ready (turn (goal.at.row_of-requires c).In-Some))
 
 -- ---- an object that has an entry
-pub write_over-requires-clause-sound : goal.write_over-requires-clause-sound
-write_over-requires-clause-sound c = written_sound c.loop-object.invariant c.requires.ready
-
-pub write_over-requires-clause-found : goal.write_over-requires-clause-found
-write_over-requires-clause-found c =
-    let v = c.loop-object in
-    sym (c.in-Some-row_of.ensures (entries v.store) (few v.store v.invariant.counted) v.invariant.indexed)
-
 pub write_over-requires-clause-room : goal.write_over-requires-clause-room
 write_over-requires-clause-room c = written_room c.loop-object.invariant c.requires.ready (turn (goal.at.write_over-requires-clause-room c).In-Some) c.requires.room.1
 
@@ -46,14 +38,6 @@ loop-object-preserved-in-Some-row_of c =
 -- ---- one that has none
 pub bounds-index-object : goal.bounds-index-object
 bounds-index-object c = object_low c.loop-object.invariant c.requires.ready (turn (goal.at.bounds-index-object c).In-Some)
-
-pub write_new-requires-clause-sound : goal.write_new-requires-clause-sound
-write_new-requires-clause-sound c = written_sound c.loop-object.invariant c.requires.ready
-
-pub write_new-requires-clause-found : goal.write_new-requires-clause-found
-write_new-requires-clause-found c =
-    let v = c.loop-object in
-    sym (c.in-None-row_of.ensures (entries v.store) (few v.store v.invariant.counted) v.invariant.indexed)
 
 pub write_new-requires-clause-room : goal.write_new-requires-clause-room
 write_new-requires-clause-room c = written_room c.loop-object.invariant c.requires.ready (turn (goal.at.write_new-requires-clause-room c).In-Some) c.requires.room.1
