@@ -8,6 +8,7 @@ use crate::words::{Class, Reader, Span};
 use crate::{Fault, Mistake, numbers, words};
 
 impl<'a> Reader<'a> {
+    // Nothing is read yet.
     pub fn new(text: &'a [u8]) -> Reader<'a>
         ensures { (result.text.now ≡ text.now) × (ahead result ≡ words 1 text.now) }
     {
@@ -29,7 +30,7 @@ impl<'a> Reader<'a> {
         Some(Span { from, to })
     }
 
-    // The next word, which is missed behind the last one.
+    // The next word, where there has to be one: else it is missed behind the line.
     fn needed_word(&mut self) -> Result<Span, Mistake>
         ensures { Needs self.old self.new result }
     {
