@@ -1,4 +1,5 @@
 -- The store after a message: the known snapshots, and the past values that live on.
+use Rattle.std.specs.Prelude.{None}
 use Prim.Native.Nat.{ℕ, ◌≤◌}
 use mathlib.Core.Path.{◌≡◌, refl, sym, ◌∙◌, subst}
 use mathlib.Core.Bool.{Bool}
@@ -30,10 +31,10 @@ none_live s horizon e = record { live = rw e; count = omega arith; same = refl }
 
 module _ (s : Store) (horizon : ℕ) (c : Counted s.heads) (l : length s.snapshots ≡ 64) (m : length (copy_heads s.copies) ≡ 128) (p : length (pasts s.written.past) ≡ 256) where
   pub lives_on : (past' : List (List ℕ)) (r : ℕ) (marks : List ℕ) → ((words : List ℕ) (p : ℕ) → get_or marks p 0 ≡ mark (take s.heads.copies (copies_of (copy_heads s.copies) words)) p)
-      → (take r (pasts past') ≡ kept (stays_by 32 horizon (take s.heads.snapshots s.snapshots) marks) (take s.heads.past (pasts s.written.past))) × (r ≡ length (kept (stays_by 32 horizon (take s.heads.snapshots s.snapshots) marks) (take s.heads.past (pasts s.written.past)))) × (length (pasts past') ≡ 256)
+      → (take r (pasts past') ≡ kept (stays_by None horizon (take s.heads.snapshots s.snapshots) marks) (take s.heads.past (pasts s.written.past))) × (r ≡ length (kept (stays_by None horizon (take s.heads.snapshots s.snapshots) marks) (take s.heads.past (pasts s.written.past)))) × (length (pasts past') ≡ 256)
       → LivesOn s (with_past s past' r) horizon
   lives_on past' r marks e d =
-      let n : r ≤ s.heads.past = omega (arith, d.1, kept_most (stays_by 32 horizon (take s.heads.snapshots s.snapshots) marks) (take s.heads.past (pasts s.written.past)), length-take s.heads.past (pasts s.written.past)) in
+      let n : r ≤ s.heads.past = omega (arith, d.1, kept_most (stays_by None horizon (take s.heads.snapshots s.snapshots) marks) (take s.heads.past (pasts s.written.past)), length-take s.heads.past (pasts s.written.past)) in
       let w : s.heads.copies ≤ length (copies_of (copy_heads s.copies) s.copied) = rw (copies_of_length (copy_heads s.copies) s.copied) (omega arith) in
       record {
         live =

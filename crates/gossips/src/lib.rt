@@ -148,7 +148,7 @@ fn drop_past(store: &mut Store, horizon: u64)
     store.heads.past = tables::dropping::drop_dead(
         &mut store.written.past,
         store.heads.past,
-        32,
+        None,
         horizon,
         &store.snapshots,
         store.heads.snapshots,
