@@ -19,7 +19,7 @@ use Rattle.model.specs.Judgement.{shaped, twice, judge}
 use Rattle.model.specs.Calls.{journal_shaped, roomed, reached, answer_to, outcome, change}
 use Rattle.journal.specs.Places.{Appended}
 use Rattle.changes.specs.Left.{Left}
-use Rattle.changes.proofs.Rooms.{Sober, sober, settled_sober, Taken, zero_taken}
+use Rattle.changes.proofs.Rooms.{Sober, sober, settled_sober}
 
 -- ---- an answer decides what is left
 module _ (st : Store) (j : List ℕ) (used : ℕ) (c : Change) (a : Answer) where
@@ -72,13 +72,6 @@ module _ {st : Store} {j : List ℕ} {used : ℕ} {good : Bool} {c : Change} (p 
 
   pub left_refused : (code_of a ≡ 0 → ⊥) → Left (change st j used good c) a st j used
   left_refused d = answered st j used good c say_settled (kept st j used c a d)
-
-  module _ (z : code_of a ≡ 0) where
-    pub taken : Taken v j used c a
-    taken = subst (Taken v j used c) (sym e) (zero_taken v j used c (subst Sober (sym q) (sober st c)) (rw e at z))
-
-    pub left_done : {s : Store} {k : List ℕ} {n : ℕ} → s ≡ after st c → Appended c j used k n → Left (change st j used good c) a s k n
-    left_done x y = answered st j used good c say_settled (changed st j used c a taken.done x y)
 
 -- ---- a change that passed the tests before, by its verdict with the journal's room
 module _ {st : Store} {j : List ℕ} {used : ℕ} {good : Bool} {c : Change} (p : Passed st j used good c) {v : Verdict} (q : v ≡ judge st c) where

@@ -4,10 +4,10 @@ use mathlib.Core.Path.{◌≡◌, refl}
 use mathlib.Core.List.{List, []}
 use native.Mathlib.Omega.{arith}
 use lib.ListN.{length}
-use lib.Dec.{ltb, leb, eqb}
-use borrow.Author.Tests.{le-leb, lt-leb, leb-true}
+use lib.Dec.{ltb, eqb}
+use borrow.Author.Tests.{lt-leb}
 use Rattle.model.specs.declared.Answer.{Answer}
-use Rattle.model.specs.declared.Answer.TheVariants.{Done, Nothing, NoRoom}
+use Rattle.model.specs.declared.Answer.TheVariants.{Nothing, NoRoom}
 use Rattle.model.specs.declared.Verdict.{Verdict}
 use Rattle.model.specs.declared.Verdict.TheVariants.{Accepted, Idle, Refused}
 use Rattle.model.specs.Answers.{code_of}
@@ -17,11 +17,9 @@ use Rattle.model.specs.Changes.{Change, commit, gossip, flush}
 use Rattle.model.specs.Judgement.{judge, judge_gossip, judge_flush}
 use Rattle.model.specs.Records.{length_of}
 use Rattle.model.specs.Calls.{reached, roomed}
-use Rattle.tables.specs.declared.Heads.{Heads}
 use Rattle.tables.specs.declared.Store as whole
 use Rattle.tables.specs.Rows.{up_to}
-use Rattle.tables.specs.Contents.{contents, stored}
-use Rattle.tables.proofs.Cases.{by_test}
+use Rattle.tables.specs.Contents.{stored}
 use Rattle.tables.proofs.Counts.{up_to_length}
 use Rattle.journal.proofs.Places.{reached_is}
 use Rattle.commits.proofs.Judged as commits
@@ -34,10 +32,7 @@ module _ (j : List ℕ) (used : ℕ) {v : Verdict} where
     reaches : r ≡ reached used c
     reaches = rw (reached_is used c, l) p
 
-    pub settled_done : r ≤ length j → Done r ≡ roomed v j used c
-    settled_done h = rw (e, ← reaches, le-leb r (length j) h)
-
-    pub settled_no_room : length j < r → NoRoom r ≡ roomed v j used c
+    settled_no_room : length j < r → NoRoom r ≡ roomed v j used c
     settled_no_room h = rw (e, ← reaches, lt-leb r (length j) h)
 
     pub fits_there : r ≤ length j → (v ≡ Accepted) × (reached used c ≤ length j)
@@ -48,9 +43,6 @@ module _ (j : List ℕ) (used : ℕ) {v : Verdict} where
 
   pub settled_idle : v ≡ Idle → (c : Change) → Nothing used ≡ roomed v j used c
   settled_idle e c = rw e
-
-  pub settled_refused : {a : Answer} → v ≡ Refused a → (c : Change) → a ≡ roomed v j used c
-  settled_refused e c = rw e
 
 -- ---- no refusal is of code 0
 abbrev pub Sober : Verdict → Type 0
@@ -68,20 +60,6 @@ sober st (commit t ws) = sober_by _ (λ a e. commits.refused_code st t ws e)
 sober st (gossip prev curr stamps) = sober_by _ (λ a e. gossips.refused_code st prev curr stamps e)
 sober st (flush p) = sober_by _ (λ a e. flushes.refused_code st p e)
 
--- ---- so code 0 says that the verdict was accepted, and that the record fits
-pub record Taken (v : Verdict) (j : List ℕ) (used : ℕ) (c : Change) (a : Answer) : Type 0 where
-  pub accepted : v ≡ Accepted
-  pub fits : reached used c ≤ length j
-  pub done : a ≡ Done (reached used c)
-
-pub zero_taken : (v : Verdict) (j : List ℕ) (used : ℕ) (c : Change) → Sober v → code_of (roomed v j used c) ≡ 0 → Taken v j used c (roomed v j used c)
-zero_taken Accepted j used c s z =
-    by_test (leb (reached used c) (length j))
-    (λ t. record { accepted = refl; fits = leb-true (reached used c) (length j) t; done = rw t })
-    (λ t. let y : ◌≡◌ {A = ℕ} 12 0 = rw t at z in absurd (omega arith))
-zero_taken Idle j used c s z = absurd (omega arith)
-zero_taken (Refused a) j used c s z = absurd (s z)
-
 -- ---- what is in the way is of no code 0: a record that doesn't fit, nothing to do, or a refusal
 pub settled_sober : (v : Verdict) (j : List ℕ) (used : ℕ) (c : Change) {a : Answer} → Sober v → (a ≡ roomed v j used c) × (v ≡ Accepted → length j < reached used c) → code_of a ≡ 0 → ⊥
 settled_sober Accepted j used c s e z =
@@ -91,12 +69,6 @@ settled_sober Accepted j used c s e z =
 settled_sober Idle j used c s e z = let y : ◌≡◌ {A = ℕ} 1 0 = rw e.0 at z in omega arith
 settled_sober (Refused b) j used c s e z = s (rw e.0 at z)
 
--- ---- the room for a message's new stamps, by the count that the heads have
-pub gossip_room : (disk dated : List ℕ) (pending past : List (List ℕ)) (snapshots : List ℕ) (copies : List (List ℕ)) (copied : List ℕ) (h : Heads) (prev curr : ℕ) (stamps : List ℕ)
-    → judge_gossip (contents disk dated pending past snapshots copies copied h) prev curr stamps ≡ Accepted → h.snapshots + length (kept (ltb h.horizon) stamps) ≤ 64
-gossip_room disk dated pending past snapshots copies copied h prev curr stamps e =
-    rw (up_to_length 0 h.snapshots snapshots) at (gossips.accepted_room (contents disk dated pending past snapshots copies copied h) prev curr stamps e)
-
 -- ---- without entries and snapshots a flush has nothing to do
 up_to_none : {A : Type 0} (d : A) (n : ℕ) (rows : List A) → n ≡ 0 → up_to d n rows ≡ []
 up_to_none d n rows e = rw e
@@ -105,16 +77,11 @@ empty_idle : (st : Store) (p : ℕ) → st.pending ≡ [] → st.snapshots ≡ [
 unfolding judge_flush
 empty_idle st p e f = rw (e, f)
 
-pub flush_idle : (disk dated : List ℕ) (pending past : List (List ℕ)) (snapshots : List ℕ) (copies : List (List ℕ)) (copied : List ℕ) (h : Heads) (p : ℕ) → h.pending + h.snapshots ≡ 0
-    → Idle ≡ judge_flush (contents disk dated pending past snapshots copies copied h) p
-flush_idle disk dated pending past snapshots copies copied h p e =
-    empty_idle (contents disk dated pending past snapshots copies copied h) p (up_to_none _ h.pending _ (omega arith)) (up_to_none _ h.snapshots _ (omega arith))
+pub flush_idle_anew : (s : whole.Store) (p : ℕ) → s.heads.pending + s.heads.snapshots ≡ 0 → Idle ≡ judge_flush (stored s) p
+flush_idle_anew s p e = empty_idle (stored s) p (up_to_none _ s.heads.pending _ (omega arith)) (up_to_none _ s.heads.snapshots _ (omega arith))
 
--- ---- the same of the whole store
+-- ---- the room for a message's new stamps, by the count that the heads have
 pub gossip_room_anew : (s : whole.Store) (prev curr : ℕ) (stamps : List ℕ) → judge_gossip (stored s) prev curr stamps ≡ Accepted
     → s.heads.snapshots + length (kept (ltb s.heads.horizon) stamps) ≤ 64
 gossip_room_anew s prev curr stamps e =
     rw (up_to_length 0 s.heads.snapshots s.snapshots) at (gossips.accepted_room (stored s) prev curr stamps e)
-
-pub flush_idle_anew : (s : whole.Store) (p : ℕ) → s.heads.pending + s.heads.snapshots ≡ 0 → Idle ≡ judge_flush (stored s) p
-flush_idle_anew s p e = empty_idle (stored s) p (up_to_none _ s.heads.pending _ (omega arith)) (up_to_none _ s.heads.snapshots _ (omega arith))

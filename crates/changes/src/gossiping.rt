@@ -3,16 +3,18 @@ ghost use Rattle.std.specs.Prelude.{◌≡◌, true, false};
 ghost use Rattle.model.specs.Damage.{damaged};
 ghost use Rattle.model.specs.Judgement.{stamps_shaped};
 ghost use Rattle.model.specs.Calls.{journal_shaped, gossip_call};
-ghost use Rattle.tables.specs.Contents.{contents, stored};
+ghost use Rattle.tables.specs.Contents.{stored};
 ghost use Rattle.changes.specs.Left.{Left, Made};
 ghost use Rattle.changes.specs.Kept.{GossipKept};
 
-use crate::settling::{Changed, ChangedAnew};
+use crate::settling::ChangedAnew;
 use journal::place::Place;
 use model::Answer;
-use tables::{Copied, CopyTable, Disk, Heads, PastTable, PendingTable, Snapshots, Store};
+use tables::Store;
 
-// What is left where damage and shape are tested: the store's verdict, the journal's room, and the two writers.
+// What is left where damage and shape are tested: the store's verdict, the journal's room, and the two writers. Inlined: behind a
+// call the answer would go through memory.
+#[inline(always)]
 pub fn take_anew(
     store: &mut Store,
     journal: &mut [u8],
@@ -68,61 +70,4 @@ pub fn gossip_anew(
     ensures kept { GossipKept store.old store.new }
 {
     ChangedAnew::told(tested(store, journal, used, prev, curr, stamps), used)
-}
-
-pub fn gossip(
-    disk: &Disk,
-    dated: &Disk,
-    pending: &PendingTable,
-    past: &mut PastTable,
-    snapshots: &mut Snapshots,
-    copies: &CopyTable,
-    copied: &Copied,
-    h: Heads,
-    journal: &mut [u8],
-    used: Place,
-    prev: u64,
-    curr: u64,
-    stamps: &[u64],
-) -> Changed
-    ensures { Left (gossip_call (contents disk.now dated.now pending.now past.old snapshots.old copies.now copied.now h) journal.old used.at prev curr stamps.now) result.answer (contents disk.now dated.now pending.now past.new snapshots.new copies.now copied.now result.heads) journal.new result.place.at }
-{
-    tables::laid(*disk, *dated, *pending, *past, *snapshots, *copies, *copied);
-    if damage::damaged(pending, past, snapshots, copies, h) {
-        return Changed {
-            heads: h,
-            answer: Answer::Damaged,
-            place: used,
-        };
-    }
-    if !crate::settling::journal_shaped(journal, used) {
-        return Changed {
-            heads: h,
-            answer: Answer::Shape,
-            place: used,
-        };
-    }
-    if !rules::stamps_shaped(prev, curr, stamps) {
-        return Changed {
-            heads: h,
-            answer: Answer::Shape,
-            place: used,
-        };
-    }
-    let verdict = gossips::judge_gossip(snapshots, h, prev, curr, stamps);
-    let answer = crate::settling::settled(verdict, journal, used, 18 + 8 * stamps.len());
-    if answer.code() != 0 {
-        return Changed {
-            heads: h,
-            answer,
-            place: used,
-        };
-    }
-    let heads = gossips::apply_gossip(past, snapshots, copies, h, curr, stamps);
-    let place = used.append_gossip(journal, prev, curr, stamps);
-    Changed {
-        heads,
-        answer,
-        place,
-    }
 }

@@ -3,12 +3,11 @@ ghost use Rattle.std.specs.Prelude.{◌≡◌, ℕ, ◌≤◌, length, MatchResu
 ghost use Rattle.model.specs.declared.Answer.TheVariants.{Done};
 ghost use Rattle.model.specs.Changes.{Change};
 ghost use Rattle.model.specs.Records.{length_of};
-ghost use Rattle.model.specs.Calls.{journal_shaped, roomed};
+ghost use Rattle.model.specs.Calls.{journal_shaped};
 ghost use Rattle.changes.specs.Left.{Settled};
 
 use journal::place::Place;
 use model::{Answer, Verdict};
-use tables::Heads;
 
 // What a change hands back: the answer, and the place for the next call.
 #[derive(Clone, Copy)]
@@ -62,31 +61,5 @@ pub fn settled_anew(
         }
         Verdict::Idle => Err(Answer::Nothing(used.at as u64)),
         Verdict::Refused(a) => Err(a),
-    }
-}
-
-// What a change hands back: the heads, the answer, and the place for the next call.
-#[derive(Clone, Copy)]
-pub struct Changed {
-    pub heads: Heads,
-    pub answer: Answer,
-    pub place: Place,
-}
-
-// A verdict with the journal's room, the last test. `length` is what the record's length field says.
-pub fn settled(verdict: Verdict, journal: &[u8], used: Place, length: usize) -> Answer
-    requires { (length ≤ 170) × (used.at ≤ 65535) }
-    ensures { (c : Change) → length_of c ≡ length → result ≡ roomed verdict journal.now used.at c }
-{
-    match verdict {
-        Verdict::Accepted => {
-            let reached = used.behind(length);
-            if reached <= journal.len() {
-                return Answer::Done(reached as u64);
-            }
-            Answer::NoRoom(reached as u64)
-        }
-        Verdict::Idle => Answer::Nothing(used.at as u64),
-        Verdict::Refused(a) => a,
     }
 }

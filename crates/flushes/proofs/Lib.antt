@@ -11,12 +11,3 @@ pub mod Holdings
 pub mod Judging
 pub mod Writing
 pub mod Told
-pub mod LentTurns
-pub mod LentSharing
-pub mod LentListing
-pub mod LentStaying
-pub mod LentCopying
-pub mod LentSettling
-pub mod LentHoldings
-pub mod LentJudging
-pub mod LentWriting

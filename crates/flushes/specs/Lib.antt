@@ -1,3 +1,2 @@
 pub mod Promises
 pub mod Parts
-pub mod LentParts

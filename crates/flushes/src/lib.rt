@@ -5,7 +5,6 @@ mod archive;
 mod due;
 mod dues;
 mod judge;
-mod lent;
 mod rows;
 mod settle;
 

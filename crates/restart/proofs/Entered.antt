@@ -1,13 +1,13 @@
 -- The index of the entries, made anew: 128 for each object, then each entry's row, where no two entries are of one object.
 use Rattle.std.specs.Prelude.{None}
-use Prim.Native.Nat.{ℕ, zero, suc, ◌+◌, ◌<◌, ◌≤◌}
+use Prim.Native.Nat.{ℕ, zero, suc, ◌+◌, ◌<◌}
 use mathlib.Core.Path.{◌≡◌, refl, ap, sym, ◌∙◌, subst}
 use mathlib.Core.List.{List, [], ◌∷◌}
 use native.Mathlib.Omega.{arith}
-use lib.ListN.{length, take, get_or, set, replicate, get_or-eq_default}
-use lib.Seq.{get_or-take, get_or-set_same, get_or-set_other}
-use lib.Dec.{eqb, ltb}
-use borrow.Author.Tests.{eqb-true, eqb-false, ltb-true, ltb-false, eq-eqb, ne_eqb}
+use lib.ListN.{length, take, get_or, set, replicate}
+use lib.Seq.{get_or-take}
+use lib.Dec.{eqb}
+use borrow.Author.Tests.{eq-eqb, ne_eqb}
 use Rattle.model.specs.declared.Pending.{Pending}
 use Rattle.model.specs.Store.{none, some, lookup}
 use Rattle.tables.specs.Rows.{pending_of, pending_at}
@@ -24,20 +24,6 @@ pub blank_at : (n o : ℕ) → get_or {A = ℕ} (replicate n 128) o 128 ≡ 128
 blank_at zero o = refl
 blank_at (suc n) zero = refl
 blank_at (suc n) (suc o) = blank_at n o
-
--- for one object after the other
-module _ (index : List ℕ) (p : ℕ) (v : (k : ℕ) → k < p → get_or index k 128 ≡ 128) where
-  pub clear_more : p < length index → (k : ℕ) → k < p + 1 → get_or (set index p 128) k 128 ≡ 128
-  clear_more l k h =
-      by_test (eqb k p)
-      (λ e. rw (eqb-true k p e) (get_or-set_same index p 128 128 l))
-      (λ e. get_or-set_other index p k 128 128 (eqb-false k p e) ∙ v k (omega (arith, eqb-false k p e)))
-
-  pub clear_all : length index ≤ p → (k : ℕ) → get_or index k 128 ≡ 128
-  clear_all l k =
-      by_test (ltb k p)
-      (λ e. v k (ltb-true k p e))
-      (λ e. get_or-eq_default index 128 (omega (arith, ltb-false k p e)))
 
 -- ---- an object that is not found is no entry's
 other : (n : ℕ) (es : List Pending) (i o : ℕ) → i < n → i < length es → lookup o (take n es) ≡ none → (pending_at es i).object ≡ o → ⊥

@@ -3,8 +3,7 @@ use Prim.Native.Nat.{ℕ, zero, suc, ◌≤◌, ◌<◌}
 use mathlib.Core.Path.{◌≡◌, refl, ap, sym, ◌∙◌, subst}
 use mathlib.Core.Bool.{true, false}
 use mathlib.Core.List.{List, [], ◌∷◌, map}
-use native.Mathlib.Omega.{arith}
-use borrow.Author.Tests.{lt-ltb, le-leb, lt-leb}
+use borrow.Author.Tests.{le-leb, lt-leb}
 use lib.ListN.{length, take, get_or}
 use lib.Dec.{ltb, leb, eqb}
 use Rattle.model.specs.declared.Pending.{Pending}
@@ -20,7 +19,7 @@ use Rattle.tables.specs.Contents.{stored, Counted}
 use Rattle.tables.proofs.Bridges.{pages_in}
 use Rattle.tables.proofs.Copies.{no_copy}
 use Rattle.tables.proofs.Counts.{up_to_length}
-use Rattle.tables.proofs.Fronts.{any_front, all_front, twice_front, rising_front}
+use Rattle.tables.proofs.Fronts.{any_front, all_front, rising_front}
 use Rattle.tables.proofs.Indexing.{index_start}
 use Rattle.history.specs.Words.{All}
 use Rattle.history.proofs.Laws.{by_test, both_yes, neither}

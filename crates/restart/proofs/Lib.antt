@@ -1,4 +1,3 @@
-pub mod Before
 pub mod Zeros
 pub mod Entered
 pub mod Fronts

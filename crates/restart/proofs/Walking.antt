@@ -6,6 +6,8 @@ use mathlib.Core.List.{List, [], ◌∷◌}
 use native.Mathlib.Omega.{arith}
 use lib.ListN.{length, get_or}
 use borrow.Author.Tests.{lt-ltb, le-ltb, eq-eqb, ne_eqb}
+use Rattle.std.proofs.Common.{Some, None}
+use Rattle.std.specs.List.{slice_get}
 use Rattle.model.specs.declared.Answer.{Answer}
 use Rattle.model.specs.declared.Answer.TheVariants.{Done, Shape, Version, Malformed, Contradiction}
 use Rattle.model.specs.declared.Verdict.{Verdict}
@@ -139,6 +141,14 @@ module _ {j : List ℕ} {s : Store} {at : ℕ} (w : Walking j s at) where
         }
 
 -- ---- the journal's first byte
+pub first_there : (j : List ℕ) {v : ℕ} → Some v ≡ slice_get j 0 → (0 < length j) × (get_or j 0 0 ≡ v)
+first_there [] e = never (cc)
+first_there (x ∷ xs) e = (omega arith, cc)
+
+pub none_there : (j : List ℕ) → None ≡ slice_get j 0 → length j ≡ 0
+none_there [] e = refl
+none_there (x ∷ xs) e = never (cc)
+
 module _ (j : List ℕ) where
   pub restart_shape : 65535 < length j → restart j ≡ refused Shape
   unfolding restart
@@ -149,10 +159,13 @@ unfolding restart fresh_start
 restart_empty [] h = refl
 restart_empty (v ∷ rest) h = absurd (omega arith)
 
-pub restart_version : (j : List ℕ) → length j ≤ 65535 → 0 < length j → (get_or j 0 0 ≡ 1 → ⊥) → restart j ≡ refused (Version (get_or j 0 0))
+restart_version : (j : List ℕ) → length j ≤ 65535 → 0 < length j → (get_or j 0 0 ≡ 1 → ⊥) → restart j ≡ refused (Version (get_or j 0 0))
 unfolding restart
 restart_version [] h l n = absurd (omega arith)
 restart_version (v ∷ rest) h l n = rw (le-ltb 65535 (length (v ∷ rest)) h, ne_eqb v 1 n)
+
+pub restart_version_of : (j : List ℕ) {v : ℕ} → length j ≤ 65535 → 0 < length j → get_or j 0 0 ≡ v → (v ≡ 1 → ⊥) → restart j ≡ refused (Version v)
+restart_version_of j h l e n = rw (restart_version j h l (λ z. n (sym e ∙ z)), e)
 
 pub restart_walk : (j : List ℕ) → length j ≤ 65535 → 0 < length j → get_or j 0 0 ≡ 1 → restart j ≡ walk (length j) j 1 fresh
 unfolding restart

@@ -1,19 +1,10 @@
--- A disk cleared word by word is the fresh store's, and heads of 0 with two such disks hold the fresh store.
-use Prim.Native.Nat.{ℕ, ◌≤◌, ◌<◌}
-use mathlib.Core.Path.{◌≡◌, sym, ◌∙◌}
+-- Heads of 0 with two cleared disks hold the fresh store.
+use Prim.Native.Nat.{ℕ}
+use mathlib.Core.Path.{◌≡◌}
 use mathlib.Core.List.{List}
-use native.Mathlib.Omega.{arith}
-use lib.ListN.{length, get_or, replicate, length-replicate, get_or-replicate}
-use lib.Seq.{ext_get_or}
 use Rattle.model.specs.Store.{fresh}
 use Rattle.tables.specs.Contents.{contents}
 use Rattle.restart.specs.Turns.{zeros}
-
-pub all_zeros : (words : List ℕ) (i : ℕ) → length words ≡ 512 → 512 ≤ i → ((k : ℕ) → k < i → get_or words k 0 ≡ 0) → words ≡ zeros
-unfolding zeros
-all_zeros words i l h z =
-    ext_get_or 0 words (replicate 512 0) (l ∙ sym (length-replicate {A = ℕ} 512 0))
-    (λ k b. z k (omega arith) ∙ sym (get_or-replicate {A = ℕ} 512 k 0 0 (omega arith)))
 
 pub holds_fresh : {values stamps : List ℕ} → values ≡ zeros → stamps ≡ zeros → (pending past : List (List ℕ)) (snapshots : List ℕ) (copies : List (List ℕ)) (copied : List ℕ)
     → contents values stamps pending past snapshots copies copied (record { pending = 0; past = 0; snapshots = 0; copies = 0; horizon = 0; last = 0 }) ≡ fresh

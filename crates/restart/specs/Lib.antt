@@ -1,3 +1,2 @@
-pub mod lent
 pub mod Promises
 pub mod Turns

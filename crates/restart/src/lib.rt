@@ -6,7 +6,6 @@ mod empty;
 mod flush;
 mod gossip;
 mod indexing;
-mod lent;
 mod replay;
 mod walk;
 
@@ -18,8 +17,6 @@ ghost use Rattle.restart.specs.Promises.{Rebuilt, Resumes, FreshKept};
 use journal::place::Place;
 use model::Answer;
 use tables::Store;
-
-pub use lent::{Started, fresh, restart};
 
 // What a start hands back: the answer, and the place for the next call.
 // Kept: a change hands back the same, but one type of both would have to stand in a crate below both, none of which has a use for it.

@@ -9,7 +9,7 @@ use model::Verdict;
 use tables::{Index, Store};
 
 // What a walk keeps from record to record: the index of the entries, whether it tells their rows, and the room for a commit's writes.
-// Kept: an Option of the index has to copy its 512 bytes whenever it is made anew.
+// Kept: were the index an Option, a commit, which is lent the room, would open it once more, with a case for None that can't come.
 #[derive(Drop)]
 pub struct Room {
     pub indexed: bool,

@@ -18,7 +18,7 @@ use Rattle.changes.proofs.Undamaged.{sound}
 use Rattle.changes.proofs.Shapes.{shape_second, shape_third, formed}
 use Rattle.changes.proofs.Rooms.{settled_idle, flush_idle_anew}
 use Rattle.changes.proofs.Outcomes.{left_damaged, left_shape, left_refused, Passed, made_refused, made_done}
-use Rattle.changes.proofs.flushing.settle.Goals as goal
+use Rattle.changes.proofs.flushing.flush_page.Goals as goal
 
 passed : {st : model.Store} {j : List ℕ} {used : ℕ} (page : ℕ) → damaged st ≡ false → journal_shaped j used ≡ true → page < 32 → Passed st j used true (flush page)
 passed page w e p = record { whole = w; formed = shape_third refl e (lt-ltb page 32 p); once = refl }

@@ -1,2 +1,0 @@
--- What the replays over tables lent one by one ask and promise.
-pub mod Turns
