@@ -15,7 +15,6 @@ ghost use Rattle.tables.specs.Contents.{stored, Laid};
 ghost use Rattle.flushes.specs.Promises.{Whole, ReadyAnew, PlannedAnew, Room, AppliedAnew};
 
 use due::Stamps;
-pub use lent::{Judged, Plan, apply_flush, judge_flush};
 use model::Verdict;
 use rows::Rule;
 use shares::ShareAnew;
