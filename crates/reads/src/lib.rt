@@ -14,7 +14,6 @@ ghost use Rattle.views.specs.Views.{LookableAnew};
 ghost use Rattle.reads.specs.Read.{Read, ShownBy};
 ghost use Rattle.reads.specs.Knows.{padded, KnowsAnew, StandsAnew};
 
-pub use lent::{Knowledge, Stood, clock_read, current_read, known, snapshot_read, standing};
 use model::{Answer, Figures};
 use tables::{Index, Store};
 use views::{ViewAnew, Word};
