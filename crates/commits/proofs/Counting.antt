@@ -1,11 +1,11 @@
 -- A loop that counts those of a list that pass a test: one turn, and the end. No more pass than there are.
 use Prim.Native.Nat.{ℕ, ◌+◌, ◌≤◌, ◌<◌}
-use mathlib.Core.Path.{◌≡◌, sym, ap, ◌∙◌}
-use mathlib.Core.Bool.{Bool, true, false}
+use mathlib.Core.Path.{◌≡◌, ap}
+use mathlib.Core.Bool.{Bool}
 use mathlib.Core.List.{List, [], ◌∷◌, map}
 use native.Mathlib.Numerals.{add-one}
 use native.Mathlib.Omega.{arith}
-use lib.ListN.{length, drop, get_or, drop_of_length-le}
+use lib.ListN.{length, drop, get_or}
 use lib.Seq.{drop-cons}
 use Rattle.tables.proofs.Cases.{by_test}
 use Rattle.commits.specs.Rows.{one_if, trues}

@@ -4,10 +4,9 @@ use mathlib.Core.Path.{◌≡◌, refl, ap, ◌∙◌, subst}
 use mathlib.Core.Bool.{Bool, true, false}
 use mathlib.Core.List.{List, [], map}
 use native.Mathlib.Omega.{arith}
-use lib.ListN.{length, take}
+use lib.ListN.{length}
 use lib.Dec.{ltb, leb}
 use borrow.Author.Tests.{lt-ltb, le-ltb, le-leb, lt-leb, leb-true, ltb-false, leb-false}
-use Rattle.model.specs.declared.Pending.{Pending}
 use Rattle.model.specs.declared.Answer.{Answer}
 use Rattle.model.specs.declared.Answer.TheVariants.{Late, PendingFull, PastFull}
 use Rattle.model.specs.declared.Verdict.{Verdict}
@@ -17,10 +16,9 @@ use Rattle.model.specs.Lists.{pick, both, either, twice_b}
 use Rattle.model.specs.Store.{Store}
 use Rattle.model.specs.Changes.{Write, paired, last_at, commit_store}
 use Rattle.model.specs.Judgement.{judge_commit}
-use Rattle.tables.specs.declared.Heads.{Heads}
 use Rattle.tables.specs.declared.Store as whole
-use Rattle.tables.specs.Rows.{pending_of, past_of, pendings, pasts, up_to}
-use Rattle.tables.specs.Contents.{contents, stored, Counted}
+use Rattle.tables.specs.Rows.{pending_of, past_of, pendings, pasts}
+use Rattle.tables.specs.Contents.{stored, Counted}
 use Rattle.tables.proofs.Cases.{by_test}
 use Rattle.tables.proofs.Counts.{up_to_length}
 use Rattle.tables.proofs.Searches.{both_left, both_right}
@@ -28,7 +26,6 @@ use Rattle.commits.specs.Rows.{trues, new_in, live_in, displaces_in}
 use Rattle.commits.specs.Promises.{Room}
 use Rattle.commits.proofs.Counting.{trues_few}
 use Rattle.commits.proofs.Growth.{pending_growth, past_growth}
-use Rattle.commits.proofs.Finding.{pending_taken}
 
 -- ---- the verdict, test by test
 module _ (st : Store) (t : ℕ) (ws : List Write) where

@@ -5,11 +5,10 @@ use Rattle.model.specs.declared.Past.{Past}
 use Rattle.model.specs.Lists.{all_b, twice_b, rising_from, add_if}
 use Rattle.model.specs.Store as model
 use Rattle.model.specs.Changes.{Write, put, closed, write_one, commit_store}
-use Rattle.tables.specs.declared.Heads.{Heads}
 use Rattle.tables.specs.declared.Store.{Store}
-use Rattle.tables.specs.Rows.{past_of, pending_at, pendings, pasts, copy_heads, up_to}
-use Rattle.tables.specs.Lookups.{find_pending, row_of, Indexed}
-use Rattle.tables.specs.Contents.{contents, stored, Counted}
+use Rattle.tables.specs.Rows.{pending_at, pendings}
+use Rattle.tables.specs.Lookups.{Indexed}
+use Rattle.tables.specs.Contents.{stored, Counted}
 use Rattle.commits.specs.Rows.{live_in}
 
 -- the store fits the two tables that a commit adds to

@@ -4,8 +4,6 @@ use Rattle.model.specs.declared.Pending.{Pending}
 use Rattle.model.specs.declared.Past.{Past}
 use Rattle.model.specs.Store.{Store, Slot, none, some, lookup, live_b}
 use Rattle.model.specs.Changes.{closed}
-use Rattle.tables.specs.declared.Heads.{Heads}
-use Rattle.tables.specs.Contents.{contents}
 
 -- how many are true
 abbrev pub one_if : Bool → ℕ

@@ -1,14 +1,11 @@
 -- A list from a place on, and new stamps written behind those known.
-use Prim.Native.Nat.{ℕ, ◌+◌, ◌-◌, ◌<◌, ◌≤◌}
+use Prim.Native.Nat.{ℕ, ◌+◌, ◌-◌, ◌≤◌}
 use mathlib.Core.Path.{◌≡◌, ap, ◌∙◌}
-use mathlib.Core.Bool.{Bool, true, false}
-use mathlib.Core.List.{List, [], ◌∷◌, ◌++◌}
-use native.Mathlib.Numerals.{add-one}
-use lib.ListN.{length, take, drop, get_or, length-drop, drop_of_length-le}
-use lib.Seq.{drop-cons, take-length}
+use mathlib.Core.List.{List, ◌++◌}
+use lib.ListN.{length, take, drop, length-drop}
+use lib.Seq.{take-length}
 use borrow.Rule.Slice.PartMut.{put_mid}
 use Rattle.std.proofs.lemmas.Slice.{take-put_mid}
-use Rattle.model.specs.Lists.{kept}
 
 -- a list from a place on, as the code slices it
 pub rest : (l : List ℕ) (r : ℕ) → take (length l - r) (drop r l) ≡ drop r l

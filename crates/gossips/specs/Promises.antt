@@ -4,10 +4,9 @@ use Rattle.model.specs.Lists.{all_b, kept, rising_from}
 use Rattle.model.specs.Store.{live_b}
 use Rattle.model.specs.Judgement as judgement
 use Rattle.model.specs.Changes.{gossip_store}
-use Rattle.tables.specs.declared.Heads.{Heads}
 use Rattle.tables.specs.declared.Store.{Store}
-use Rattle.tables.specs.Rows.{pasts, copy_heads, copies_of}
-use Rattle.tables.specs.Contents.{contents, stored, Counted}
+use Rattle.tables.specs.Rows.{copy_heads}
+use Rattle.tables.specs.Contents.{stored, Counted}
 
 -- the first stamp in which two lists differ, where they do
 abbrev pub differing_in : judgement.Compared → Option ℕ

@@ -35,7 +35,13 @@ impl Night {
     }
 
     // A message of one stamp, or of none.
-    pub fn gossip(&mut self, rt: &HostRuntime, prev: u64, curr: u64, stamp: Option<u64>) -> ChangedAnew {
+    pub fn gossip(
+        &mut self,
+        rt: &HostRuntime,
+        prev: u64,
+        curr: u64,
+        stamp: Option<u64>,
+    ) -> ChangedAnew {
         prints::number(rt, b" gossip ", prev);
         prints::number(rt, b", ", curr);
         let store = &mut self.store;

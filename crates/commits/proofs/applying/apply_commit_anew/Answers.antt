@@ -5,7 +5,7 @@ use lib.ListN.{length, length-append}
 use Rattle.std.proofs.lemmas.Slice.Zip.{zip_turn, zip_end}
 use Rattle.commits.specs.Promises.{entries}
 use Rattle.commits.proofs.Displacing.{few}
-use Rattle.commits.proofs.Commit.{Turn, written_start, written_sound, written_room, written_over, written_new, written_end, object_low}
+use Rattle.commits.proofs.Commit.{Turn, written_start, written_room, written_over, written_new, written_end, object_low}
 use Rattle.commits.proofs.applying.apply_commit_anew.Goals as goal
 use Rattle.commits.proofs.applying.apply_commit_anew.Goals.{In-Some}
 
