@@ -19,6 +19,9 @@ const COUNT_AT: usize = 9;
 
 const STAMPS_AT: usize = 10;
 
+// The bytes of a state with all its stamps.
+const ROOM: usize = 522;
+
 // `sent` comes first, so that the compiler makes one store of it.
 fn put_state(buffer: &mut [u8], sent: u64, stamps: &[u64])
     requires { model.size_of (length stamps.now) ≤ length buffer.old }
@@ -74,7 +77,7 @@ impl State {
         if self.damaged() {
             return Answer::Damaged;
         }
-        if buffer.len() < 522 {
+        if buffer.len() < ROOM {
             return Answer::Shape;
         }
         let stamps = self.granted();

@@ -11,6 +11,11 @@ use journal::place::Place;
 use model::Answer;
 use requests::Request;
 
+// The most stamps of a message, and the bytes of one that has them.
+const MOST: usize = 16;
+
+const ROOM: usize = 148;
+
 // The stamps of a message, and its curr: with more than sixteen after prev up to the clock stamp it is the sixteenth.
 fn choose(granted: &[u64], prev: u64, clock: u64) -> (&[u64], u64)
     requires { rising_from 0 granted.now ≡ true }
@@ -19,8 +24,8 @@ fn choose(granted: &[u64], prev: u64, clock: u64) -> (&[u64], u64)
     let start = granted.partition_point(|stamp| *stamp <= prev);
     let after = &granted[start..];
     let count = after.partition_point(|stamp| *stamp <= clock);
-    if 16 < count {
-        return (&after[..16], after[15]);
+    if MOST < count {
+        return (&after[..MOST], after[MOST - 1]);
     }
     (&after[..count], clock)
 }
@@ -33,7 +38,7 @@ impl State {
         if self.damaged() {
             return Answer::Damaged;
         }
-        if buffer.len() < 148 {
+        if buffer.len() < ROOM {
             return Answer::Shape;
         }
         if clock < prev {

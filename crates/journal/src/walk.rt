@@ -10,6 +10,14 @@ ghost use Rattle.journal.specs.Counts.{Counted, Uncounted};
 use crate::kind::Kind;
 use crate::place::Place;
 
+// The least and the most that a record's length field tells.
+const SHORTEST: usize = 2;
+
+const LONGEST: usize = 170;
+
+// The most writes of a commit, and stamps of a gossip message.
+const MOST_ROWS: usize = 16;
+
 #[derive(Clone, Copy, PartialEq, Eq, Debug)]
 pub struct CommitHead {
     pub stamp: u64,
@@ -36,6 +44,7 @@ pub enum Record {
 }
 
 // What the walk finds: the journal's end, a record whose bytes aren't all there, a malformed one at an offset, or a whole one.
+// Kept: four cases, since a restart ends at the first two alike and without a fault; a Result of an Option would tear them apart.
 #[derive(Clone, Copy, PartialEq, Eq, Debug)]
 pub enum Step {
     End,
@@ -50,7 +59,7 @@ fn rows(body: &[u8], front: usize, row: usize) -> Option<usize>
     ensures { MatchOption result (Uncounted body.now front row) (Counted body.now front row) }
 {
     let count = usize::from(*body.get(front - 1)?);
-    if 16 < count {
+    if MOST_ROWS < count {
         return None;
     }
     if body.len() != front + row * count {
@@ -145,7 +154,7 @@ pub fn step_at(s: &[u8], p: Place) -> Step
         return Step::Short;
     }
     let length = fields::get_be(s, at, 2) as usize;
-    if length < 2 || 170 < length {
+    if length < SHORTEST || LONGEST < length {
         return Step::Malformed(at);
     }
     if left - 2 < length {

@@ -8,9 +8,9 @@ use Rattle.coordinator.proofs.State.keep.Goals as goal
 pub returns-then-damaged : goal.returns-then-damaged
 returns-then-damaged c = kept_damaged (held c.args.self.now) c.args.buffer.now (sym c.damaged.ensures ∙ c.if-damaged.true)
 
-pub returns-then-buffer-lt522 : goal.returns-then-buffer-lt522
-returns-then-buffer-lt522 c =
-    kept_short (held c.args.self.now) c.args.buffer.now (sym c.damaged.ensures ∙ c.if-damaged.false) c.if-buffer-lt522.true
+pub returns-then-buffer-lt-ROOM : goal.returns-then-buffer-lt-ROOM
+returns-then-buffer-lt-ROOM c =
+    kept_short (held c.args.self.now) c.args.buffer.now (sym c.damaged.ensures ∙ c.if-damaged.false) c.if-buffer-lt-ROOM.true
 
 pub granted-stamps-requires : goal.granted-stamps-requires
 granted-stamps-requires c = (sound c.args.self.now (sym c.damaged.ensures ∙ c.if-damaged.false)).count_in
@@ -23,4 +23,4 @@ put_state-requires c =
 pub returns : goal.returns
 returns c =
     let whole = sym c.damaged.ensures ∙ c.if-damaged.false in
-    kept_done (held c.args.self.now) c.args.buffer.now whole c.if-buffer-lt522.false c.granted-stamps.ensures c.put_state.ensures
+    kept_done (held c.args.self.now) c.args.buffer.now whole c.if-buffer-lt-ROOM.false c.granted-stamps.ensures c.put_state.ensures

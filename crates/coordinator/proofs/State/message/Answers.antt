@@ -10,10 +10,10 @@ pub returns-then-damaged : goal.returns-then-damaged
 returns-then-damaged c =
     say_damaged (held c.args.self.now) c.args.prev c.args.clock c.args.buffer.now (sym c.damaged.ensures ∙ c.if-damaged.true)
 
-pub returns-then-buffer-lt148 : goal.returns-then-buffer-lt148
-returns-then-buffer-lt148 c =
+pub returns-then-buffer-lt-ROOM : goal.returns-then-buffer-lt-ROOM
+returns-then-buffer-lt-ROOM c =
     let whole = sym c.damaged.ensures ∙ c.if-damaged.false in
-    say_small (held c.args.self.now) c.args.prev c.args.clock c.args.buffer.now whole c.if-buffer-lt148.true
+    say_small (held c.args.self.now) c.args.prev c.args.clock c.args.buffer.now whole c.if-buffer-lt-ROOM.true
 
 pub returns-then-clock-prev : goal.returns-then-clock-prev
 returns-then-clock-prev c =

@@ -29,12 +29,12 @@ count c =
     parted_point p.ensures.bound (IsPartitionPoint-from_clause (λ s. leb s c.args.clock) (after c) p.result p.ensures.partitioned
     (IsPartitionedBy-leb (λ s. s) (after c) c.args.clock (never_falls 0 (after c) r)) (λ a r q k. search rules))
 
-pub returns-then-count-gt16 : goal.returns-then-count-gt16
-returns-then-count-gt16 c =
-    let p = (goal.at.returns-then-count-gt16 c).After-partition_point-count in
-    speaks_sixteen c.args.granted.now (after p) c.args.prev c.args.clock _ _ c.requires (start p) (after_is p) (count p) c.if-count-gt16.true
+pub returns-then-count-gt-MOST : goal.returns-then-count-gt-MOST
+returns-then-count-gt-MOST c =
+    let p = (goal.at.returns-then-count-gt-MOST c).After-partition_point-count in
+    speaks_sixteen c.args.granted.now (after p) c.args.prev c.args.clock _ _ c.requires (start p) (after_is p) (count p) c.if-count-gt-MOST.true
 
 pub returns : goal.returns
 returns c =
     let p = (goal.at.returns c).After-partition_point-count in
-    speaks_all c.args.granted.now (after p) c.args.prev c.args.clock _ _ c.requires (start p) (after_is p) (count p) c.if-count-gt16.false
+    speaks_all c.args.granted.now (after p) c.args.prev c.args.clock _ _ c.requires (start p) (after_is p) (count p) c.if-count-gt-MOST.false

@@ -18,10 +18,10 @@ returns-then-left-lt2 c =
     let a = c.args in
     at_torn a.s.now a.p.at (omega arith) (omega arith)
 
-pub returns-then-length-lt2 : goal.returns-then-length-lt2
-returns-then-length-lt2 c =
+pub returns-then-length-lt-SHORTEST : goal.returns-then-length-lt-SHORTEST
+returns-then-length-lt-SHORTEST c =
     let a = c.args in
-    at_outside a.s.now a.p.at c.get_be-length.ensures (omega arith) (λ lo hi. omega (arith, c.then-length-lt2.either))
+    at_outside a.s.now a.p.at c.get_be-length.ensures (omega arith) (λ lo hi. omega (arith, c.then-length-lt-SHORTEST.either))
 
 pub returns-then-left-length : goal.returns-then-left-length
 returns-then-left-length c =
