@@ -1,7 +1,7 @@
 -- Lulls: how the newest stamp before one is found, and that in a lull no value of the page as of a stamp was written beyond an earlier one.
 use Prim.Native.Nat.{ℕ, ◌+◌, ◌/◌, ◌≤◌, ◌<◌, max}
 use mathlib.Core.Path.{◌≡◌, refl, ap, sym, ◌∙◌}
-use mathlib.Core.Bool.{Bool, true, false}
+use mathlib.Core.Bool.{Bool, true}
 use mathlib.Core.List.{List, [], ◌∷◌}
 use native.Mathlib.Omega.{arith}
 use lib.ListN.{length, take, drop, get_or}
@@ -22,18 +22,15 @@ use Rattle.tables.proofs.Counts.{up_to_take}
 use Rattle.tables.proofs.Rows.{pasts_length, pendings_length}
 use Rattle.tables.proofs.Searches.{drop_end, both_left, both_right}
 use Rattle.std.proofs.Common.{Some}
-use Rattle.views.specs.declared.View.{View}
 use Rattle.views.specs.declared.ViewAnew.{ViewAnew}
 use Rattle.views.specs.declared.Word.TheVariants.{Age}
-use Rattle.views.specs.Views.{viewed, part_of, covers_b, shows_b, Lookable, viewed_anew, part_of_anew, covers_b_anew, shows_b_anew, LookableAnew}
+use Rattle.views.specs.Views.{viewed_anew, part_of_anew, covers_b_anew, shows_b_anew, LookableAnew}
 use Rattle.views.proofs.Laying.{word_or}
 use Rattle.views.proofs.Showing.{spanned, past_shown, pending_shown}
 use Rattle.views.proofs.Sights.{Sized}
-use Rattle.views.proofs.Words.{past_word, pending_word}
 use Rattle.shares.specs.Shares.{row_of_page}
-use Rattle.shares.specs.Lulls.{newer_of, newest_of, Lull, outside_b, Still, StillAnew}
+use Rattle.shares.specs.Lulls.{newer_of, newest_of, Lull, outside_b, StillAnew}
 use Rattle.shares.proofs.Numbers.{next_row}
-use Rattle.shares.proofs.Laying.{row_there, entry_there}
 
 -- ---- the newer of two stamps
 module _ (bound b w : ℕ) where
@@ -103,40 +100,6 @@ outside_low l w s n h m b e =
     by_test (leb w l.from)
     (λ q. omega (arith, leb-true w l.from q))
     (λ q. let z : leb l.until w ≡ true = rw q at e in absurd (omega (arith, leb-true l.until w z)))
-
--- ---- the page as of a stamp n
-module _ (p n : ℕ) where
-  abbrev pub ages_at : View
-  ages_at = record { page = p; current = false; stamp = n; ages = true }
-
-  row_by : (q : Past) → covers_b ages_at q ≡ true → q.from ≤ n
-  row_by q e =
-      leb-true q.from n (both_left (leb q.from n) (ltb n q.until) (both_right (eqb (q.object / 16) p) (both (leb q.from n) (ltb n q.until)) e))
-
-  entry_by : (x : Pending) → shows_b ages_at x ≡ true → x.latest ≤ n
-  entry_by x e = leb-true x.latest n (both_right (eqb (x.object / 16) p) (leb x.latest n) e)
-
-  -- in a lull, no slot's value was written beyond s
-  pub still_slot : (disk dated : List ℕ) (pending past : List (List ℕ)) (h : Heads) → Lookable disk dated pending past h p
-      → (l : Lull) → Still pending past h p l → (s : ℕ) → l.from ≤ s → n < l.until → (k : ℕ) → k < 16 → get_or dated (object_at p k) 0 ≤ s
-      → viewed (contents disk dated pending past [] [] [] h) ages_at (object_at p k) ≤ s
-  still_slot disk dated pending past h a l t s b e k m d =
-      let es = take h.pending (pendings pending) in
-      let qs = take h.past (pasts past) in
-      let o = object_at p k in
-      let x : Seen = record { value = get_or disk o 0; stamp = get_or dated o 0 } in
-      let under =
-      word_low (covers_b ages_at) _ (λ q. outside_b l q.from) (λ q. slot_of q.object) (λ q. part_of true (past_seen q)) k s (row_there ages_at)
-      (λ q c z. outside_low l q.from s n b e (row_by q c) z) qs (get_or dated o 0) d t.past_rows in
-      let low = rw (past_word ages_at k m x qs) at under in
-      let all =
-      word_low (shows_b ages_at) _ (λ q. outside_b l q.latest) (λ q. slot_of q.object) (λ q. part_of true (pending_seen q)) k s (entry_there ages_at)
-      (λ q c z. outside_low l q.latest s n b e (entry_by q c) z) es _ low t.entries in
-      rw (
-        up_to_take (pending_of []) h.pending (pendings pending) (omega arith),
-        up_to_take (past_of []) h.past (pasts past) (omega arith),
-      )
-      (rw (pending_word ages_at k m x _ es a.single) at all)
 
 -- ---- the ages of a page as of a stamp n
 module _ (p n : ℕ) where

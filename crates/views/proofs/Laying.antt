@@ -8,24 +8,14 @@ use lib.ListN.{length, take, drop, get_or, set, length-set}
 use lib.Seq.{get_or-set_same, get_or-set_other}
 use lib.Dec.{eqb}
 use borrow.Author.Tests.{eqb-true, eqb-false}
-use Rattle.model.specs.declared.Pending.{Pending}
-use Rattle.model.specs.declared.Past.{Past}
 use Rattle.model.specs.Lists.{both, pick}
-use Rattle.model.specs.Store.{page16, slot_of, pending_seen, past_seen}
+use Rattle.model.specs.Store.{page16}
 use Rattle.tables.specs.Lookups.{trimmed}
 use Rattle.tables.proofs.Backward.{Turn, back_cons, back_end}
 use Rattle.tables.proofs.Trims.{trim_keeps}
 use Rattle.tables.proofs.Cases.{by_test}
-use Rattle.views.specs.declared.View.{View}
-use Rattle.views.specs.Views.{part_of, covers_b, shows_b, lay}
+use Rattle.views.specs.Views.{lay}
 use Rattle.views.proofs.Pages.{page_length, page_at_lem, page_of_lem}
-
--- ---- the rows and the entries that a view shows
-abbrev pub past_over : View → List Past → List ℕ → List ℕ
-past_over v = lay (covers_b v) (λ q. slot_of q.object) (λ q. part_of v.ages (past_seen q))
-
-abbrev pub pending_over : View → List Pending → List ℕ → List ℕ
-pending_over v = lay (shows_b v) (λ e. slot_of e.object) (λ e. part_of v.ages (pending_seen e))
 
 -- ---- a word put at a slot where a test passes
 module _ (b : Bool) (out : List ℕ) (k x : ℕ) where
