@@ -23,10 +23,6 @@ pub both_not : (a b : Bool) → b ≡ false → false ≡ both a b
 both_not true b e = sym e
 both_not false b e = refl
 
-both_so : (a b : Bool) → b ≡ true → a ≡ both a b
-both_so true b e = sym e
-both_so false b e = refl
-
 -- ---- the rows that are listed by their numbers
 module _ {A : Type 0} (f : A → Bool) (slot word : A → ℕ) (d : A) (l : List A) (ns : List ℕ) where
   -- the row of the j-th number, over those behind it

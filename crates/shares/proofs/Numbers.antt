@@ -2,7 +2,7 @@
 use Prim.Native.Nat.{ℕ, zero, suc, ◌+◌, ◌≤◌, ◌<◌}
 use mathlib.Core.Path.{◌≡◌, refl, ap, sym, ◌∙◌}
 use mathlib.Core.Bool.{Bool, true, false}
-use mathlib.Core.List.{List, [], ◌∷◌, ◌++◌, append_assoc, append-nil}
+use mathlib.Core.List.{List, [], ◌∷◌, ◌++◌, append_assoc}
 use native.Mathlib.Numerals.{add-one}
 use native.Mathlib.Omega.{arith}
 use lib.ListN.{length, take, drop, get_or, get_or-append, length-append}
@@ -11,7 +11,6 @@ use lib.Dec.{ltb}
 use borrow.Author.Tests.{ltb-true, ltb-false}
 use Rattle.model.specs.Lists.{kept}
 use Rattle.tables.proofs.Cases.{by_test}
-use Rattle.tables.proofs.Searches.{drop_end}
 use Rattle.shares.specs.Shares.{rows_at, NumberedAnew}
 
 pub next_row : {A : Type 0} (l : List A) (n i : ℕ) (d : A) → i < n → n ≤ length l → drop i (take n l) ≡ get_or l i d ∷ drop (i + 1) (take n l)
@@ -39,9 +38,6 @@ module _ {A : Type 0} (d : A) (f : A → Bool) (l : List A) (n i : ℕ) (ns : Li
 
     pub number_less : f x ≡ false → rows_at d l ns ++ kept f (drop (i + 1) (take n l)) ≡ W
     number_less e = rw (next_row l n i d h m, ap f (sym p) ∙ e) at v
-
-  pub number_last : n ≤ i → rows_at d l ns ≡ W
-  number_last h = sym (append-nil _) ∙ (rw (drop_end n l i h) at v)
 
 -- a number put behind the others
 pub inside_push : (ns : List ℕ) (i n : ℕ) → ((j : ℕ) → j < length ns → get_or ns j 0 < n) → i < n → (j : ℕ) → j < length (ns ++ (i ∷ [])) → get_or (ns ++ (i ∷ [])) j 0 < n

@@ -1,17 +1,16 @@
 -- A page as of many stamps: sixteen words a stamp, one word put for all stamps of a span, and rows laid over all of them.
 use Prim.Native.Nat.{ℕ, zero, suc, ◌+◌, ◌*◌, ◌≤◌, ◌<◌}
 use mathlib.Core.Path.{◌≡◌, refl, ap, sym, ◌∙◌}
-use mathlib.Core.Bool.{Bool, true, false}
+use mathlib.Core.Bool.{Bool, true}
 use mathlib.Core.List.{List, [], ◌∷◌, ◌++◌}
 use native.Mathlib.Omega.{arith}
 use lib.ListN.{length, take, drop, get_or, set, length-set, length-drop}
 use lib.Seq.{take-take, take_at, drop_at, length-take-le, take-set-le, take-set-lt, drop-set-lt, drop-set-add}
-use lib.Dec.{eqb, ltb, leb}
+use lib.Dec.{eqb}
 use borrow.Rule.Slice.PartMut.{put_mid, take_put, same_len_mid}
-use borrow.Author.Tests.{ltb-true, ltb-false, lt-leb, le-leb, le-ltb, lt-ltb, eqb-true, eqb-false}
-use Rattle.model.specs.declared.Past.{Past}
+use borrow.Author.Tests.{eqb-true, eqb-false}
 use Rattle.model.specs.Lists.{pick}
-use Rattle.model.specs.Store.{page16, object_at, slot_of, in_span, pending_seen, past_seen}
+use Rattle.model.specs.Store.{page16, object_at, slot_of, pending_seen, past_seen}
 use Rattle.model.specs.Changes.{of_page}
 use Rattle.tables.specs.declared.Heads.{Heads}
 use Rattle.tables.specs.Rows.{pending_of, past_of, pendings, pasts}
@@ -25,13 +24,10 @@ use Rattle.views.specs.Views.{part_of_anew, lay, LookableAnew}
 use Rattle.views.proofs.Sights.{Sized, on_disk, below_past, sight_page}
 use Rattle.shares.specs.declared.ShareAnew.{ShareAnew}
 use Rattle.shares.specs.Shares.{row_of_page, rows_at, SharedAnew}
-use Rattle.shares.specs.Many.{Ordered, Pages, page_at_anew}
-use Rattle.shares.proofs.Laying.{both_not, lay_listed}
+use Rattle.shares.specs.Many.{Pages, page_at_anew}
+use Rattle.shares.proofs.Laying.{lay_listed}
 
 -- ---- stamps in order
-pub all_before : (l : List ℕ) (s k : ℕ) → Ordered l → k < length l → get_or l k 0 < s → (i : ℕ) → i < k + 1 → get_or l i 0 < s
-all_before l s k o m h i b = omega (arith, o i k (omega arith) m)
-
 -- ---- sixteen words from a place on
 cut_take : (b a : ℕ) (l : List ℕ) → b + 16 ≤ a → take 16 (drop b (take a l)) ≡ take 16 (drop b l)
 cut_take zero a l h = take-take 16 a l (omega arith)
@@ -74,9 +70,6 @@ pub record Laid (stamps : List ℕ) (at slot word : ℕ) (t : ℕ → Bool) (wor
   pub size : length words ≡ length words₀
 
 module _ {stamps : List ℕ} {at slot word : ℕ} {t : ℕ → Bool} {words₀ : List ℕ} {j : ℕ} where
-  pub laid_start : ((i : ℕ) → i < j → t (get_or stamps i 0) ≡ false) → Laid stamps at slot word t words₀ j words₀
-  laid_start f = record { done = λ i h. rw (f i h); ahead = λ i h. refl; untouched = refl; size = refl }
-
   module _ {words : List ℕ} (a : Laid stamps at slot word t words₀ j words) where
     pub laid_more : {p x : ℕ} → p ≡ at + slot → x ≡ word → slot < 16 → t (get_or stamps j 0) ≡ true
         → Laid stamps at slot word t words₀ (j + 1) (set words (p + 16 * j) x)
@@ -98,31 +91,6 @@ module _ {stamps : List ℕ} {at slot word : ℕ} {t : ℕ → Bool} {words₀ :
           untouched = take-set-le at words (p + 16 * j) x (omega arith) ∙ a.untouched;
           size = length-set words (p + 16 * j) x ∙ a.size;
         }
-
-    -- none of the others pass
-    pub laid_end : ((i : ℕ) → j ≤ i → i < length stamps → t (get_or stamps i 0) ≡ false)
-        → (f : ℕ → List ℕ) (w : List ℕ) → Pages f stamps at w words₀ → Pages (λ s. pick (t s) (set (f s) slot word) (f s)) stamps at w words
-    laid_end c f w p =
-        record {
-          pages = λ i h.
-              let s = get_or stamps i 0 in
-              by_test (ltb i j)
-              (λ e. a.done i (ltb-true i j e) ∙ ap (λ r. pick (t s) (set r slot word) r) (p.pages i h))
-              (λ e. let m = ltb-false i j e in rw (c i m h) (a.ahead i m ∙ p.pages i h));
-          untouched = a.untouched ∙ p.untouched;
-          size = a.size ∙ p.size;
-        }
-
--- ---- a row's span
-module _ (s : ℕ) (q : Past) where
-  pub span_early : s < q.from → in_span s q ≡ false
-  span_early h = rw (lt-leb q.from s h)
-
-  pub span_late : q.until ≤ s → in_span s q ≡ false
-  span_late h = sym (both_not (leb q.from s) (ltb s q.until) (le-ltb s q.until h))
-
-  pub span_in : q.from ≤ s → s < q.until → in_span s q ≡ true
-  span_in h m = rw (le-leb q.from s h, lt-ltb s q.until m)
 
 -- ---- the same words, said otherwise
 pub pages_same : {f g : ℕ → List ℕ} {stamps : List ℕ} {at : ℕ} {words₀ words : List ℕ} → ((s : ℕ) → f s ≡ g s) → Pages f stamps at words₀ words → Pages g stamps at words₀ words
