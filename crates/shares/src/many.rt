@@ -9,8 +9,8 @@ ghost use Rattle.shares.specs.Many.{Ordered, FirstFrom, Pages, page_at_anew};
 use crate::ShareAnew;
 use model::{Past, Pending};
 use tables::{Heads, Written};
-use views::rows::Row;
 use views::Word;
+use views::rows::Row;
 
 // The page's words on disk, n times.
 fn lay_disk_words(w: &Written, page: u64, word: Word, n: usize, words: &mut [u64], at: usize)

@@ -3,7 +3,7 @@
 
 pub mod rows;
 
-ghost use Rattle.std.specs.Prelude.{◌≡◌, false, List, map, ℕ, ◌≤◌, ◌<◌, ◌+◌, length, take, drop, get_or, set, leb};
+ghost use Rattle.std.specs.Prelude.{◌≡◌, false, List, map, ℕ, ◌≤◌, ◌<◌, ◌+◌, length, take, drop, get_or};
 ghost use Rattle.model.specs.Lists.{twice_b};
 ghost use Rattle.model.specs.Store.{page16, object_at, slot_of, pending_seen, past_seen};
 ghost use Rattle.tables.specs.Rows.{pendings, pasts};
