@@ -29,14 +29,14 @@ fn lay_shown<R: Row>(stamps: &[u64], r: R, word: Word, words: &mut [u64], at: us
     ensures { (f : ℕ → List ℕ) (w : List ℕ) → Pages f stamps.now at w words.old → Pages (λ s. pick (R.shown_b (Some s) r) (set (f s) (slot_of (R.object_of r)) (part_of_anew word (R.seen_of r))) (f s)) stamps.now at w words.new }
 {
     let seen = r.seen();
-    let x = word.of(seen);
+    let shown = word.of(seen);
     let slot = at + (r.object() % 16) as usize;
     let first = first_from(stamps, seen.stamp);
     for j in first..stamps.len() {
         if !r.lasts(stamps[j]) {
             return;
         }
-        words[slot + 16 * j] = x;
+        words[slot + 16 * j] = shown;
     }
 }
 

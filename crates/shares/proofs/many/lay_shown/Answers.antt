@@ -9,4 +9,4 @@ use Rattle.shares.proofs.many.lay_shown.Goals as goal
 pub loop-j-preserved : goal.loop-j-preserved
 loop-j-preserved g c =
     let a = c.args in
-    laid_more c.loop-j.invariant (ap (λ o. a.at + o % 16) c.object.ensures) (c.of-x.ensures ∙ ap (part_of_anew a.word) c.seen-seen.ensures) (omega arith) (sym c.lasts.ensures ∙ c.if-not-lasts.false)
+    laid_more c.loop-j.invariant (ap (λ o. a.at + o % 16) c.object.ensures) (c.of-shown.ensures ∙ ap (part_of_anew a.word) c.seen-seen.ensures) (omega arith) (sym c.lasts.ensures ∙ c.if-not-lasts.false)
