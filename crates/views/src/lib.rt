@@ -41,12 +41,24 @@ pub struct ViewAnew {
     pub word: Word,
 }
 
-// Sixteen words from a place on.
+fn copy_sixteen(words: &[u64], at: usize, out: &mut [u64])
+    requires { (at + 16 ≤ length words.now) × (length out.old ≡ 16) }
+    ensures { out.new ≡ take 16 (drop at words.now) }
+{
+    // Kept: `copy_from_slice` tests first whether the two overlap, four instructions more for each page's words.
+    for k in 0..16 {
+        out[k] = words[at + k];
+    }
+}
+
+// Sixteen words from a place on. All are read before the first is written, so that the compiler may move several at a time.
 pub fn sixteen(words: &[u64], at: usize, out: &mut [u64])
     requires { (at + 16 ≤ length words.now) × (length out.old ≡ 16) }
     ensures { out.new ≡ take 16 (drop at words.now) }
 {
-    out[..16].copy_from_slice(&words[at..at + 16]);
+    let mut held = [0u64; 16];
+    copy_sixteen(words, at, &mut held);
+    copy_sixteen(&held, 0, out);
 }
 
 // The page's sixteen words on disk.
