@@ -24,49 +24,29 @@ enum Besides {
 
 // The item's number, its call, what is shown after it.
 #[derive(Clone, Copy)]
-struct Item {
-    number: u64,
-    call: Call,
-    besides: Besides,
-}
-
-const fn item(number: u64, call: Call) -> Item {
-    Item {
-        number,
-        call,
-        besides: Besides::Nothing,
-    }
-}
-
-const fn item_and(number: u64, call: Call, besides: Besides) -> Item {
-    Item {
-        number,
-        call,
-        besides,
-    }
-}
+struct Item(u64, Call, Besides);
 
 const NIGHT: [Item; 14] = [
-    item_and(1, Call::Commit(100, 0, 7), Besides::Journal),
-    item(2, Call::Commit(100, 0, 7)),
-    item_and(3, Call::Commit(120, 0, 9), Besides::Standing),
-    item(4, Call::Gossip(0, 110, Some(105))),
-    item(5, Call::Read(107, 0)),
-    item(6, Call::Read(104, 0)),
-    item(6, Call::Read(111, 0)),
-    item_and(7, Call::Flush(0), Besides::Standing),
-    item(8, Call::Flush(0)),
-    item_and(9, Call::Gossip(110, 200, None), Besides::Standing),
-    item(10, Call::Commit(200, 0, 7)),
-    item(10, Call::Gossip(201, 300, None)),
-    item(11, Call::Gossip(100, 300, Some(106))),
-    item(11, Call::Gossip(100, 150, Some(105))),
+    Item(1, Call::Commit(100, 0, 7), Besides::Journal),
+    Item(2, Call::Commit(100, 0, 7), Besides::Nothing),
+    Item(3, Call::Commit(120, 0, 9), Besides::Standing),
+    Item(4, Call::Gossip(0, 110, Some(105)), Besides::Nothing),
+    Item(5, Call::Read(107, 0), Besides::Nothing),
+    Item(6, Call::Read(104, 0), Besides::Nothing),
+    Item(6, Call::Read(111, 0), Besides::Nothing),
+    Item(7, Call::Flush(0), Besides::Standing),
+    Item(8, Call::Flush(0), Besides::Nothing),
+    Item(9, Call::Gossip(110, 200, None), Besides::Standing),
+    Item(10, Call::Commit(200, 0, 7), Besides::Nothing),
+    Item(10, Call::Gossip(201, 300, None), Besides::Nothing),
+    Item(11, Call::Gossip(100, 300, Some(106)), Besides::Nothing),
+    Item(11, Call::Gossip(100, 150, Some(105)), Besides::Nothing),
 ];
 
 const SEPARATELY: [Item; 3] = [
-    item(12, Call::Commit(120, 0, 9)),
-    item(12, Call::Gossip(0, 120, Some(120))),
-    item(12, Call::Read(120, 0)),
+    Item(12, Call::Commit(120, 0, 9), Besides::Nothing),
+    Item(12, Call::Gossip(0, 120, Some(120)), Besides::Nothing),
+    Item(12, Call::Read(120, 0), Besides::Nothing),
 ];
 
 impl Night {
@@ -101,10 +81,10 @@ impl Night {
 
 fn run(rt: &HostRuntime, items: &[Item]) {
     let mut night = Night::new();
-    for item in items {
-        prints::item(rt, item.number);
-        night.make(rt, item.call);
-        night.show(rt, item.besides);
+    for Item(number, call, besides) in items {
+        prints::item(rt, *number);
+        night.make(rt, *call);
+        night.show(rt, *besides);
         prints::end(rt);
     }
 }
