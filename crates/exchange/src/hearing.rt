@@ -97,12 +97,7 @@ fn heard(
 }
 
 // Takes the bytes of a message as gossip.
-pub fn hear_anew(
-    store: &mut Store,
-    journal: &mut [u8],
-    used: Place,
-    message: &[u8],
-) -> ChangedAnew
+pub fn hear_anew(store: &mut Store, journal: &mut [u8], used: Place, message: &[u8]) -> ChangedAnew
     ensures left { Left (model.hear (stored store.old) journal.old used.at message.now) result.answer (stored store.new) journal.new result.place.at }
     ensures kept { GossipKept store.old store.new }
 {
