@@ -1,12 +1,11 @@
 -- What the tests of the ranges tell: one that hits is damage; where none does, the counts and numbers are in range, the snapshots ascend, and damage is
 -- two entries of one object.
-use Rattle.std.specs.Prelude.{ℕ, ◌≡◌, Bool, true, false, List, map, take, leb}
+use Rattle.std.specs.Prelude.{◌≡◌, Bool, true, false, map, take, leb}
 use Rattle.model.specs.Lists.{any_b, twice_b, rising_from}
 use Rattle.model.specs.Damage.{damaged}
-use Rattle.tables.specs.declared.Heads.{Heads}
 use Rattle.tables.specs.declared.Store.{Store}
 use Rattle.tables.specs.Rows.{pendings}
-use Rattle.tables.specs.Contents.{contents, stored, Counted}
+use Rattle.tables.specs.Contents.{stored, Counted}
 
 pub record SiftedAnew (out : Bool) (store : Store) : Type 0 where
   pub hit : out ≡ true → damaged (stored store) ≡ true

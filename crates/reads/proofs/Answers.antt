@@ -1,5 +1,5 @@
 -- The reads' answers, in the model's order of the tests, each with what it leaves in the buffer.
-use Prim.Native.Nat.{ℕ, ◌*◌, ◌≤◌, ◌<◌}
+use Prim.Native.Nat.{ℕ, ◌≤◌, ◌<◌}
 use mathlib.Core.Path.{◌≡◌, refl, sym}
 use mathlib.Core.Bool.{Bool, true, false}
 use mathlib.Core.List.{List}
@@ -9,7 +9,6 @@ use borrow.Author.Tests.{lt-ltb, le-ltb, ltb-true, eqb-true, ne_eqb}
 use Rattle.model.specs.declared.Answer.{Answer}
 use Rattle.model.specs.declared.Answer.TheVariants.{Done, Damaged, Shape, Ahead, NoSnapshot}
 use Rattle.model.specs.Answers.{is_done}
-use Rattle.model.specs.Lists.{pick}
 use Rattle.model.specs.Store.{Store, page16, object_at, current, page_as_of, page_now}
 use Rattle.model.specs.Damage.{damaged}
 use Rattle.model.specs.Reads.{read_shaped, largest, snapshot_answer, read_at, current_read}
