@@ -50,19 +50,13 @@ listed os vs j used e =
 pub commit_formed : (os vs : List ℕ) (b : Bool) → both (both (eqb (length os) (length vs)) b) (objects_shaped (objects_of (paired os vs))) ≡ both (both (eqb (length os) (length vs)) b) (objects_shaped os)
 commit_formed os vs b = by_test (eqb (length os) (length vs)) (λ e. rw (paired_objects os vs (eqb-true (length os) (length vs) e))) (λ e. rw e)
 
--- the change that they make is in shape too; its other tests, and its length
+-- the change that they make is in shape too, and its other test is the list's
 module _ {os vs j : List ℕ} {used : ℕ} (l : Listed os vs j used) (t : ℕ) where
   pub listed_formed : both (both (eqb (length os) (length vs)) (journal_shaped j used)) (shaped (commit t (paired os vs))) ≡ true
   listed_formed = commit_formed os vs (journal_shaped j used) ∙ l.tested
 
   pub listed_twice : twice (commit t (paired os vs)) ≡ twice_b os
   listed_twice = rw (paired_objects os vs l.even)
-
-  pub listed_length : length_of (commit t (paired os vs)) ≡ 10 + 10 * length os
-  listed_length = rw (paired_length os vs l.even)
-
-  pub listed_passed : {st : Store} → damaged st ≡ false → twice_b os ≡ false → Passed st j used (eqb (length os) (length vs)) (commit t (paired os vs))
-  listed_passed w d = record { whole = w; formed = listed_formed; once = listed_twice ∙ d }
 
 -- the lists of a commit that passed its two tests
 module _ {os vs j : List ℕ} {used : ℕ} (f : Formed os vs j used) where
@@ -71,7 +65,7 @@ module _ {os vs j : List ℕ} {used : ℕ} (f : Formed os vs j used) where
 
   module _ (t : ℕ) where
     pub formed_length : length_of (commit t (paired os vs)) ≡ 10 + 10 * length os
-    formed_length = listed_length formed_listed t
+    formed_length = rw (paired_length os vs formed_listed.even)
 
     pub formed_passed : {st : Store} → damaged st ≡ false → Passed st j used (eqb (length os) (length vs)) (commit t (paired os vs))
-    formed_passed w = listed_passed formed_listed t w f.once
+    formed_passed w = record { whole = w; formed = listed_formed formed_listed t; once = listed_twice formed_listed t ∙ f.once }

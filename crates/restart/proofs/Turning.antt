@@ -1,27 +1,18 @@
 -- A verdict, and what the writers leave, make the turn that the model makes.
-use mathlib.Core.Path.{◌≡◌, refl, ap, sym, ◌∙◌, subst}
+use mathlib.Core.Path.{◌≡◌, refl, subst}
 use mathlib.Core.Bool.{Bool, true, false}
 use Rattle.model.specs.declared.Verdict.{Verdict}
 use Rattle.model.specs.declared.Verdict.TheVariants.{Accepted, Idle, Refused}
 use Rattle.model.specs.Store as model
-use Rattle.model.specs.Changes.{Change, after}
-use Rattle.model.specs.Judgement.{judge}
+use Rattle.model.specs.Changes.{Change}
 use Rattle.tables.specs.declared.Store.{Store}
-use Rattle.tables.specs.Contents.{stored, Counted}
 use Rattle.history.proofs.Laws.{clash}
-use Rattle.restart.specs.Turns.{accepted_b, Held, Carried}
+use Rattle.restart.specs.Turns.{accepted_b, Carried}
 
 pub was_accepted : (v : Verdict) → accepted_b v ≡ true → v ≡ Accepted
 was_accepted Accepted h = refl
 was_accepted Idle h = clash false h refl
 was_accepted (Refused a) h = clash false h refl
-
-module _ (s : Store) (c : Change) {v : Verdict} (e : v ≡ judge (stored s) c) where
-  pub carried_no : Held s → accepted_b v ≡ false → Carried (stored s) c false s
-  carried_no h f = record { turned = record { says = sym f ∙ ap accepted_b e; contains = refl }; counted = h.counted }
-
-  pub carried_yes : {s' : Store} → accepted_b v ≡ true → stored s' ≡ after (stored s) c → Counted s'.heads → Carried (stored s) c true s'
-  carried_yes f g n = record { turned = record { says = sym f ∙ ap accepted_b e; contains = g }; counted = n }
 
 -- the same turn of an equal change
 pub carried_as : {st : model.Store} {c d : Change} {b : Bool} {s : Store} → Carried st c b s → c ≡ d → Carried st d b s
