@@ -70,6 +70,7 @@ pub struct CopyHead {
     pub stamp: u64,
 }
 
+// Kept: a reader and a writer for each kind of row. A trait for rows would hold the same six bodies, and its laws between them and their contracts.
 pub fn pending_at(t: &PendingTable, i: usize) -> Pending
     requires { i < 128 }
     ensures { result ≡ pending_at (pendings t.now) i }
