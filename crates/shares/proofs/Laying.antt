@@ -85,6 +85,12 @@ module _ {A : Type 0} (f : A → Bool) (slot word : A → ℕ) (d : A) (l : List
       ≡ lay f slot word (rows_at d l (drop j ns)) out
   lay_next j i e h p out = rw (e, rows_next d l ns j h, p)
 
+  -- the same, where a slot is told otherwise
+  pub lay_turn : {x : A} {out y : List ℕ} (j i : ℕ) → i ≡ j + 1 → j < length ns → x ≡ get_or l (get_or ns j 0) d → (out₀ : List ℕ)
+      → out ≡ lay f slot word (rows_at d l (drop i ns)) out₀ → (o : ℕ) → o ≡ slot x → y ≡ pick (f x) (set out o (word x)) out
+      → y ≡ lay f slot word (rows_at d l (drop j ns)) out₀
+  lay_turn j i e h p out₀ v o q w = w ∙ rw (q, v) (lay_next j i e h p out₀)
+
   pub lay_end : (j : ℕ) → j ≤ 0 → (out : List ℕ) → lay f slot word (rows_at d l (drop j ns)) out ≡ lay f slot word (rows_at d l ns) out
   lay_end j h out = rw (back_end j ns h)
 
