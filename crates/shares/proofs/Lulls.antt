@@ -1,12 +1,12 @@
 -- Lulls: how the newest stamp before one is found, and that in a lull no value of the page as of a stamp was written beyond an earlier one.
 use Prim.Native.Nat.{ℕ, ◌+◌, ◌/◌, ◌≤◌, ◌<◌, max}
-use mathlib.Core.Path.{◌≡◌, refl, ap, sym, ◌∙◌}
-use mathlib.Core.Bool.{Bool, true, false}
+use mathlib.Core.Path.{◌≡◌, refl}
+use mathlib.Core.Bool.{Bool, true}
 use mathlib.Core.List.{List, [], ◌∷◌}
 use native.Mathlib.Omega.{arith}
-use lib.ListN.{length, take, drop, get_or}
+use lib.ListN.{take, get_or}
 use lib.Dec.{eqb, ltb, leb}
-use borrow.Author.Tests.{lt-ltb, le-ltb, leb-true, leb-false, eqb-true, eqb-false}
+use borrow.Author.Tests.{le-ltb, leb-true, leb-false}
 use Rattle.model.specs.declared.Seen.{Seen}
 use Rattle.model.specs.declared.Past.{Past}
 use Rattle.model.specs.declared.Pending.{Pending}
@@ -20,26 +20,19 @@ use Rattle.tables.specs.Contents.{contents}
 use Rattle.tables.proofs.Cases.{by_test}
 use Rattle.tables.proofs.Counts.{up_to_take}
 use Rattle.tables.proofs.Rows.{pasts_length, pendings_length}
-use Rattle.tables.proofs.Searches.{drop_end, both_left, both_right}
+use Rattle.tables.proofs.Searches.{both_left, both_right}
 use Rattle.std.proofs.Common.{Some}
-use Rattle.views.specs.declared.View.{View}
 use Rattle.views.specs.declared.ViewAnew.{ViewAnew}
 use Rattle.views.specs.declared.Word.TheVariants.{Age}
-use Rattle.views.specs.Views.{viewed, part_of, covers_b, shows_b, Lookable, viewed_anew, part_of_anew, covers_b_anew, shows_b_anew, LookableAnew}
+use Rattle.views.specs.Views.{viewed_anew, part_of_anew, covers_b_anew, shows_b_anew, LookableAnew}
 use Rattle.views.proofs.Laying.{word_or}
 use Rattle.views.proofs.Showing.{spanned, past_shown, pending_shown}
 use Rattle.views.proofs.Sights.{Sized}
-use Rattle.views.proofs.Words.{past_word, pending_word}
 use Rattle.shares.specs.Shares.{row_of_page}
-use Rattle.shares.specs.Lulls.{newer_of, newest_of, Lull, outside_b, Still, StillAnew}
-use Rattle.shares.proofs.Numbers.{next_row}
-use Rattle.shares.proofs.Laying.{row_there, entry_there}
+use Rattle.shares.specs.Lulls.{newer_of, newest_of, Lull, outside_b, StillAnew}
 
 -- ---- the newer of two stamps
 module _ (bound b w : ℕ) where
-  pub newer_beyond : bound < w → b ≡ newer_of bound b w
-  newer_beyond h = rw (lt-ltb bound w h)
-
   pub newer_max : w ≤ bound → {r : ℕ} → r ≡ max b w → r ≡ newer_of bound b w
   newer_max h e = rw (le-ltb bound w h) e
 
@@ -48,18 +41,6 @@ module _ (bound b w : ℕ) where
 
 -- ---- the newest of a stamp and of those up to a bound, found row by row
 module _ {A : Type 0} (stamp : A → ℕ) (bound : ℕ) where
-  module _ (l : List A) (n i b : ℕ) {t : ℕ} (v : newest_of stamp bound b (drop i (take n l)) ≡ t) where
-    pub newest_next : (d : A) → i < n → n ≤ length l → {x : A} → x ≡ get_or l i d → {r : ℕ} → r ≡ newer_of bound b (stamp x)
-        → newest_of stamp bound r (drop (i + 1) (take n l)) ≡ t
-    newest_next d h m {x} p e =
-        let rest = drop (i + 1) (take n l) in
-        ap (λ (k : ℕ). newest_of stamp bound k rest) e
-        ∙ sym (ap (newest_of stamp bound b) (next_row l n i d h m ∙ ap (λ y. y ∷ rest) (sym p)))
-        ∙ v
-
-    pub newest_end : n ≤ i → b ≡ t
-    newest_end h = rw (drop_end n l i h) at v
-
   pub newest_least : (b : ℕ) (l : List A) → b ≤ newest_of stamp bound b l
   newest_least b [] = omega arith
   newest_least b (x ∷ xs) =
@@ -104,40 +85,6 @@ outside_low l w s n h m b e =
     (λ q. omega (arith, leb-true w l.from q))
     (λ q. let z : leb l.until w ≡ true = rw q at e in absurd (omega (arith, leb-true l.until w z)))
 
--- ---- the page as of a stamp n
-module _ (p n : ℕ) where
-  abbrev pub ages_at : View
-  ages_at = record { page = p; current = false; stamp = n; ages = true }
-
-  row_by : (q : Past) → covers_b ages_at q ≡ true → q.from ≤ n
-  row_by q e =
-      leb-true q.from n (both_left (leb q.from n) (ltb n q.until) (both_right (eqb (q.object / 16) p) (both (leb q.from n) (ltb n q.until)) e))
-
-  entry_by : (x : Pending) → shows_b ages_at x ≡ true → x.latest ≤ n
-  entry_by x e = leb-true x.latest n (both_right (eqb (x.object / 16) p) (leb x.latest n) e)
-
-  -- in a lull, no slot's value was written beyond s
-  pub still_slot : (disk dated : List ℕ) (pending past : List (List ℕ)) (h : Heads) → Lookable disk dated pending past h p
-      → (l : Lull) → Still pending past h p l → (s : ℕ) → l.from ≤ s → n < l.until → (k : ℕ) → k < 16 → get_or dated (object_at p k) 0 ≤ s
-      → viewed (contents disk dated pending past [] [] [] h) ages_at (object_at p k) ≤ s
-  still_slot disk dated pending past h a l t s b e k m d =
-      let es = take h.pending (pendings pending) in
-      let qs = take h.past (pasts past) in
-      let o = object_at p k in
-      let x : Seen = record { value = get_or disk o 0; stamp = get_or dated o 0 } in
-      let under =
-      word_low (covers_b ages_at) _ (λ q. outside_b l q.from) (λ q. slot_of q.object) (λ q. part_of true (past_seen q)) k s (row_there ages_at)
-      (λ q c z. outside_low l q.from s n b e (row_by q c) z) qs (get_or dated o 0) d t.past_rows in
-      let low = rw (past_word ages_at k m x qs) at under in
-      let all =
-      word_low (shows_b ages_at) _ (λ q. outside_b l q.latest) (λ q. slot_of q.object) (λ q. part_of true (pending_seen q)) k s (entry_there ages_at)
-      (λ q c z. outside_low l q.latest s n b e (entry_by q c) z) es _ low t.entries in
-      rw (
-        up_to_take (pending_of []) h.pending (pendings pending) (omega arith),
-        up_to_take (past_of []) h.past (pasts past) (omega arith),
-      )
-      (rw (pending_word ages_at k m x _ es a.single) at all)
-
 -- ---- the ages of a page as of a stamp n
 module _ (p n : ℕ) where
   abbrev pub ages_at_anew : ViewAnew
@@ -177,8 +124,3 @@ module _ (p n : ℕ) where
         up_to_take (past_of []) h.past (pasts w.past) (omega (arith, pasts_length w.past 256 z.past_rows, a.past_count)),
       )
       (rw (pending_shown ages_at_anew k m (Some n) refl (spanned (Some n) o qs x) es a.single) at all)
-
--- ---- the newest of the stamps from a place on
-pub newest_more : (l : List ℕ) (at k m x : ℕ) → ((j : ℕ) → j < k → get_or l (at + j) 0 ≤ m) → get_or l (at + k) 0 ≤ x → m ≤ x → (j : ℕ) → j < k + 1 → get_or l (at + j) 0 ≤ x
-newest_more l at k m x f g h j b =
-    by_test (eqb j k) (λ e. rw (eqb-true j k e) g) (λ e. let z = eqb-false j k e in omega (arith, f j (omega arith)))

@@ -2,17 +2,16 @@
 use Prim.Native.Nat.{ℕ, zero, suc, ◌+◌, ◌≤◌, ◌<◌}
 use mathlib.Core.Path.{◌≡◌, refl, ap, sym, ◌∙◌}
 use mathlib.Core.Bool.{Bool, true, false}
-use mathlib.Core.List.{List, [], ◌∷◌, ◌++◌, append_assoc, append-nil}
+use mathlib.Core.List.{List, [], ◌∷◌, ◌++◌, append_assoc}
 use native.Mathlib.Numerals.{add-one}
 use native.Mathlib.Omega.{arith}
-use lib.ListN.{length, take, drop, get_or, set, get_or-append, length-append}
-use lib.Seq.{take-suc-set, slice-cons, length-take-le, get_or-take, get_or-set_same, get_or-set_other, get_or-append_seam, drop-cons}
-use lib.Dec.{eqb, ltb}
-use borrow.Author.Tests.{eqb-true, eqb-false, ltb-true, ltb-false}
+use lib.ListN.{length, take, drop, get_or, get_or-append, length-append}
+use lib.Seq.{slice-cons, get_or-append_seam, drop-cons}
+use lib.Dec.{ltb}
+use borrow.Author.Tests.{ltb-true, ltb-false}
 use Rattle.model.specs.Lists.{kept}
 use Rattle.tables.proofs.Cases.{by_test}
-use Rattle.tables.proofs.Searches.{drop_end}
-use Rattle.shares.specs.Shares.{rows_at, Numbered, NumberedAnew}
+use Rattle.shares.specs.Shares.{rows_at, NumberedAnew}
 
 pub next_row : {A : Type 0} (l : List A) (n i : ℕ) (d : A) → i < n → n ≤ length l → drop i (take n l) ≡ get_or l i d ∷ drop (i + 1) (take n l)
 next_row l n i d h k = rw (add-one, slice-cons i n l d)
@@ -31,27 +30,6 @@ module _ {A : Type 0} (d : A) (l : List A) where
   rows_row (i ∷ is) zero h = refl
   rows_row (i ∷ is) (suc j) h = rows_row is j (omega arith)
 
--- a number put behind k others
-pub inside_more : (ns : List ℕ) (k i n : ℕ) → ((j : ℕ) → j < k → get_or ns j 0 < n) → i < n → k < length ns → (j : ℕ) → j < k + 1 → get_or (set ns k i) j 0 < n
-inside_more ns k i n f h l j m =
-    by_test (eqb j k)
-    (λ e. rw (eqb-true j k e, get_or-set_same ns k i 0 l) h)
-    (λ e. let z = eqb-false j k e in rw (get_or-set_other ns k j i 0 z) (f j (omega arith)))
-
--- ---- k numbers are listed before row i, of the first n
-module _ {A : Type 0} (d : A) (f : A → Bool) (l : List A) (n i : ℕ) (ns : List ℕ) (k : ℕ) {W : List A} (v : rows_at d l (take k ns) ++ kept f (drop i (take n l)) ≡ W) where
-  module _ (h : i < n) (m : n ≤ length l) {x : A} (p : x ≡ get_or l i d) where
-    pub number_yes : f x ≡ true → k < length ns → rows_at d l (take (k + 1) (set ns k i)) ++ kept f (drop (i + 1) (take n l)) ≡ W
-    number_yes e r =
-        rw (add-one k, take-suc-set ns k i r, rows_append d l (take k ns) i, append_assoc)
-        (rw (next_row l n i d h m, ap f (sym p) ∙ e) at v)
-
-    pub number_no : f x ≡ false → rows_at d l (take k ns) ++ kept f (drop (i + 1) (take n l)) ≡ W
-    number_no e = rw (next_row l n i d h m, ap f (sym p) ∙ e) at v
-
-  pub number_end : n ≤ i → rows_at d l (take k ns) ≡ W
-  number_end h = sym (append-nil _) ∙ (rw (drop_end n l i h) at v)
-
 -- ---- the numbers listed name rows before row i, of the first n
 module _ {A : Type 0} (d : A) (f : A → Bool) (l : List A) (n i : ℕ) (ns : List ℕ) {W : List A} (v : rows_at d l ns ++ kept f (drop i (take n l)) ≡ W) where
   module _ (h : i < n) (m : n ≤ length l) {x : A} (p : x ≡ get_or l i d) where
@@ -60,9 +38,6 @@ module _ {A : Type 0} (d : A) (f : A → Bool) (l : List A) (n i : ℕ) (ns : Li
 
     pub number_less : f x ≡ false → rows_at d l ns ++ kept f (drop (i + 1) (take n l)) ≡ W
     number_less e = rw (next_row l n i d h m, ap f (sym p) ∙ e) at v
-
-  pub number_last : n ≤ i → rows_at d l ns ≡ W
-  number_last h = sym (append-nil _) ∙ (rw (drop_end n l i h) at v)
 
 -- a number put behind the others
 pub inside_push : (ns : List ℕ) (i n : ℕ) → ((j : ℕ) → j < length ns → get_or ns j 0 < n) → i < n → (j : ℕ) → j < length (ns ++ (i ∷ [])) → get_or (ns ++ (i ∷ [])) j 0 < n
@@ -79,15 +54,6 @@ pub rows_next : {A : Type 0} (d : A) (l : List A) (ns : List ℕ) (j : ℕ) → 
 rows_next d l ns j h = rw (add-one, drop-cons ns j 0 h)
 
 -- ---- the rows that are numbered
-module _ {A : Type 0} {d : A} {f : A → Bool} {l : List A} {n : ℕ} {ns : List ℕ} {k : ℕ} (a : Numbered d f l n ns k) where
-  pub numbered_count : k ≡ length (kept f (take n l))
-  numbered_count = sym (length-take-le k ns (omega arith)) ∙ sym (rows_length d l (take k ns)) ∙ ap length a.rows
-
-  pub numbered_row : {x : A} (j : ℕ) → j < k → x ≡ get_or l (get_or ns j 0) d → x ≡ get_or (kept f (take n l)) j d
-  numbered_row j h e =
-      let b : j < length (take k ns) = rw (length-take-le k ns (omega arith)) h in
-      e ∙ ap (λ i. get_or l i d) (sym (get_or-take k ns j 0 h)) ∙ sym (rows_row d l (take k ns) j b) ∙ ap (λ r. get_or r j d) a.rows
-
 module _ {A : Type 0} {d : A} {f : A → Bool} {l : List A} {n : ℕ} {ns : List ℕ} (a : NumberedAnew d f l n ns) where
   pub numbered_count_anew : length ns ≡ length (kept f (take n l))
   numbered_count_anew = sym (rows_length d l ns) ∙ ap length a.rows

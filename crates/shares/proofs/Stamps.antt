@@ -1,41 +1,33 @@
 -- A page as of many stamps: sixteen words a stamp, one word put for all stamps of a span, and rows laid over all of them.
-use Prim.Native.Nat.{ℕ, zero, suc, ◌+◌, ◌*◌, ◌-◌, ◌≤◌, ◌<◌}
+use Prim.Native.Nat.{ℕ, zero, suc, ◌+◌, ◌*◌, ◌≤◌, ◌<◌}
 use mathlib.Core.Path.{◌≡◌, refl, ap, sym, ◌∙◌}
-use mathlib.Core.Bool.{Bool, true, false}
+use mathlib.Core.Bool.{Bool, true}
 use mathlib.Core.List.{List, [], ◌∷◌, ◌++◌}
 use native.Mathlib.Omega.{arith}
 use lib.ListN.{length, take, drop, get_or, set, length-set, length-drop}
 use lib.Seq.{take-take, take_at, drop_at, length-take-le, take-set-le, take-set-lt, drop-set-lt, drop-set-add}
-use lib.Dec.{eqb, ltb, leb}
+use lib.Dec.{eqb}
 use borrow.Rule.Slice.PartMut.{put_mid, take_put, same_len_mid}
-use borrow.Author.Tests.{ltb-true, ltb-false, lt-leb, le-leb, le-ltb, lt-ltb, eqb-true, eqb-false}
-use Rattle.model.specs.declared.Past.{Past}
+use borrow.Author.Tests.{eqb-true, eqb-false}
 use Rattle.model.specs.Lists.{pick}
-use Rattle.model.specs.Store.{page16, object_at, slot_of, in_span, pending_seen, past_seen}
+use Rattle.model.specs.Store.{page16, object_at, slot_of, pending_seen, past_seen}
 use Rattle.model.specs.Changes.{of_page}
 use Rattle.tables.specs.declared.Heads.{Heads}
 use Rattle.tables.specs.Rows.{pending_of, past_of, pendings, pasts}
-use Rattle.tables.proofs.Backward.{Turn, back_start, back_cons, back_end}
 use Rattle.tables.proofs.Cases.{by_test}
 use Rattle.std.proofs.Common.{Some}
 use Rattle.tables.specs.declared.Written.{Written}
-use Rattle.views.specs.declared.View.{View}
 use Rattle.views.specs.declared.ViewAnew.{ViewAnew}
 use Rattle.views.specs.declared.Word.{Word}
 use Rattle.views.specs.Rows.{covers_by, shows_by}
-use Rattle.views.specs.Views.{part_of, part_of_anew, lay, Lookable, LookableAnew}
+use Rattle.views.specs.Views.{part_of_anew, lay, LookableAnew}
 use Rattle.views.proofs.Sights.{Sized, on_disk, below_past, sight_page}
-use Rattle.views.proofs.Looks.{below, beneath_past, look_page}
-use Rattle.shares.specs.declared.Share.{Share}
 use Rattle.shares.specs.declared.ShareAnew.{ShareAnew}
-use Rattle.shares.specs.Shares.{row_of_page, rows_at, Shared, SharedAnew}
-use Rattle.shares.specs.Many.{Ordered, Pages, page_at, page_at_anew}
-use Rattle.shares.proofs.Laying.{both_not, lay_both, lay_listed}
+use Rattle.shares.specs.Shares.{row_of_page, rows_at, SharedAnew}
+use Rattle.shares.specs.Many.{Pages, page_at_anew}
+use Rattle.shares.proofs.Laying.{lay_listed}
 
 -- ---- stamps in order
-pub all_before : (l : List ℕ) (s k : ℕ) → Ordered l → k < length l → get_or l k 0 < s → (i : ℕ) → i < k + 1 → get_or l i 0 < s
-all_before l s k o m h i b = omega (arith, o i k (omega arith) m)
-
 -- ---- sixteen words from a place on
 cut_take : (b a : ℕ) (l : List ℕ) → b + 16 ≤ a → take 16 (drop b (take a l)) ≡ take 16 (drop b l)
 cut_take zero a l h = take-take 16 a l (omega arith)
@@ -78,9 +70,6 @@ pub record Laid (stamps : List ℕ) (at slot word : ℕ) (t : ℕ → Bool) (wor
   pub size : length words ≡ length words₀
 
 module _ {stamps : List ℕ} {at slot word : ℕ} {t : ℕ → Bool} {words₀ : List ℕ} {j : ℕ} where
-  pub laid_start : ((i : ℕ) → i < j → t (get_or stamps i 0) ≡ false) → Laid stamps at slot word t words₀ j words₀
-  laid_start f = record { done = λ i h. rw (f i h); ahead = λ i h. refl; untouched = refl; size = refl }
-
   module _ {words : List ℕ} (a : Laid stamps at slot word t words₀ j words) where
     pub laid_more : {p x : ℕ} → p ≡ at + slot → x ≡ word → slot < 16 → t (get_or stamps j 0) ≡ true
         → Laid stamps at slot word t words₀ (j + 1) (set words (p + 16 * j) x)
@@ -103,66 +92,9 @@ module _ {stamps : List ℕ} {at slot word : ℕ} {t : ℕ → Bool} {words₀ :
           size = length-set words (p + 16 * j) x ∙ a.size;
         }
 
-    -- none of the others pass
-    pub laid_end : ((i : ℕ) → j ≤ i → i < length stamps → t (get_or stamps i 0) ≡ false)
-        → (f : ℕ → List ℕ) (w : List ℕ) → Pages f stamps at w words₀ → Pages (λ s. pick (t s) (set (f s) slot word) (f s)) stamps at w words
-    laid_end c f w p =
-        record {
-          pages = λ i h.
-              let s = get_or stamps i 0 in
-              by_test (ltb i j)
-              (λ e. a.done i (ltb-true i j e) ∙ ap (λ r. pick (t s) (set r slot word) r) (p.pages i h))
-              (λ e. let m = ltb-false i j e in rw (c i m h) (a.ahead i m ∙ p.pages i h));
-          untouched = a.untouched ∙ p.untouched;
-          size = a.size ∙ p.size;
-        }
-
--- ---- a row's span
-module _ (s : ℕ) (q : Past) where
-  pub span_early : s < q.from → in_span s q ≡ false
-  span_early h = rw (lt-leb q.from s h)
-
-  pub span_late : q.until ≤ s → in_span s q ≡ false
-  span_late h = sym (both_not (leb q.from s) (ltb s q.until) (le-ltb s q.until h))
-
-  pub span_in : q.from ≤ s → s < q.until → in_span s q ≡ true
-  span_in h m = rw (le-leb q.from s h, lt-ltb s q.until m)
-
 -- ---- the same words, said otherwise
 pub pages_same : {f g : ℕ → List ℕ} {stamps : List ℕ} {at : ℕ} {words₀ words : List ℕ} → ((s : ℕ) → f s ≡ g s) → Pages f stamps at words₀ words → Pages g stamps at words₀ words
 pages_same {f} {g} {stamps} e p = record { pages = λ j h. p.pages j h ∙ e (get_or stamps j 0); untouched = p.untouched; size = p.size }
-
--- ---- the rows that are numbered, from the last to the first
-module _ {A : Type 0} (f : A → Bool) (slot word : A → ℕ) (d : A) (l : List A) (ns : List ℕ) (k : ℕ) where
-  abbrev pub laid_from : ℕ → List ℕ → List ℕ
-  laid_from j out = lay f slot word (rows_at d l (drop j (take k ns))) out
-
-  pub numbers_start : (out : List ℕ) → out ≡ laid_from k out
-  numbers_start out = rw (back_start k ns)
-
-  pub numbers_more : {x : A} (j : ℕ) → Turn ns k j → x ≡ get_or l (get_or ns (j - 1) 0) d → (out : List ℕ)
-      → pick (f x) (set (laid_from j out) (slot x) (word x)) (laid_from j out) ≡ laid_from (j - 1) out
-  numbers_more j t p out = rw (back_cons t 0, p)
-
-  pub numbers_end : (j : ℕ) → j ≤ 0 → (out : List ℕ) → laid_from j out ≡ lay f slot word (rows_at d l (take k ns)) out
-  numbers_end j h out = rw (back_end j (take k ns) h)
-
--- ---- the page as of a stamp: its rows over its words on disk, and its entries over them
-pub page_laid : (disk dated : List ℕ) (pending past : List (List ℕ)) (h : Heads) (page : ℕ) (ages : Bool) → Lookable disk dated pending past h page
-    → (share : Share) (rs es : List ℕ) → Shared pending past h page share rs es → (s : ℕ)
-    → lay (λ e. leb e.latest s) (λ e. slot_of e.object) (λ e. part_of ages (pending_seen e)) (rows_at (pending_of []) (pendings pending) (take share.entries es))
-    (lay (in_span s) (λ q. slot_of q.object) (λ q. part_of ages (past_seen q)) (rows_at (past_of []) (pasts past) (take share.rows rs))
-    (page16 (λ k. part_of ages (record { value = get_or disk (object_at page k) 0; stamp = get_or dated (object_at page k) 0 }))))
-    ≡ page_at disk dated pending past h page ages s
-page_laid disk dated pending past h page ages a share rs es b s =
-    let v : View = record { page = page; current = false; stamp = s; ages = ages } in
-    let ps = take h.pending (pendings pending) in
-    let qs = take h.past (pasts past) in
-    let out = page16 (λ k. part_of ages (below disk dated qs v k)) in
-    let under = lay_both (row_of_page page) (in_span s) (λ q. slot_of q.object) (λ q. part_of ages (past_seen q)) qs out ∙ beneath_past disk dated qs v refl refl in
-    rw (b.past_rows.rows, b.entries.rows)
-    (lay_both (of_page page) (λ e. leb e.latest s) (λ e. slot_of e.object) (λ e. part_of ages (pending_seen e)) ps _
-    ∙ look_page disk dated pending past h v a under [] [] [])
 
 -- ---- the page as of a stamp: its rows over its words on disk, and its entries over them
 pub page_listed : (w : Written) (h : Heads) (page : ℕ) (word : Word) → Sized w → LookableAnew w h page

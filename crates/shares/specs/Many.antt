@@ -1,11 +1,11 @@
 -- A page as of many stamps at once: where a stamp lies among others, and the sixteen words of each.
-use Rattle.std.specs.Prelude.{ℕ, Some, ◌+◌, ◌*◌, ◌≤◌, ◌<◌, ◌≡◌, Bool, false, List, [], length, take, drop, get_or}
+use Rattle.std.specs.Prelude.{ℕ, Some, ◌+◌, ◌*◌, ◌≤◌, ◌<◌, ◌≡◌, List, [], length, take, drop, get_or}
 use Rattle.model.specs.Store.{page16, object_at}
 use Rattle.tables.specs.declared.Heads.{Heads}
 use Rattle.tables.specs.Contents.{contents}
 use Rattle.tables.specs.declared.Written.{Written}
 use Rattle.views.specs.declared.Word.{Word}
-use Rattle.views.specs.Views.{viewed, viewed_anew}
+use Rattle.views.specs.Views.{viewed_anew}
 
 -- stamps in order, the earlier first; two may be equal
 abbrev pub Ordered : List ℕ → Type 0
@@ -22,10 +22,6 @@ pub record Pages (f : ℕ → List ℕ) (stamps : List ℕ) (at : ℕ) (words₀
   pub pages : (j : ℕ) → j < length stamps → take 16 (drop (at + 16 * j) words) ≡ f (get_or stamps j 0)
   pub untouched : take at words ≡ take at words₀
   pub size : length words ≡ length words₀
-
--- the page's values, or their ages, as of a stamp where no copy serves
-abbrev pub page_at : List ℕ → List ℕ → List (List ℕ) → List (List ℕ) → Heads → ℕ → Bool → ℕ → List ℕ
-page_at disk dated pending past h p ages s = page16 (λ k. viewed (contents disk dated pending past [] [] [] h) (record { page = p; current = false; stamp = s; ages = ages }) (object_at p k))
 
 -- the page's values, or their ages, as of a stamp where no copy serves
 abbrev pub page_at_anew : Written → Heads → ℕ → Word → ℕ → List ℕ

@@ -7,7 +7,6 @@ use Rattle.model.specs.Changes.{of_page}
 use Rattle.tables.specs.declared.Heads.{Heads}
 use Rattle.tables.specs.Rows.{pending_of, past_of, pendings, pasts}
 use Rattle.tables.specs.declared.Written.{Written}
-use Rattle.shares.specs.declared.Share.{Share}
 use Rattle.shares.specs.declared.ShareAnew.{ShareAnew}
 
 -- a past row of the page
@@ -18,17 +17,6 @@ row_of_page p q = eqb (page_of q.object) p
 abbrev pub rows_at : {A : Type 0} → A → List A → List ℕ → List A
 rows_at d l [] = []
 rows_at d l (i ∷ is) = get_or l i d ∷ rows_at d l is
-
--- the first k numbers are those of the rows that pass, among the first n, in their order
-pub record Numbered {A : Type 0} (d : A) (f : A → Bool) (l : List A) (n : ℕ) (numbers : List ℕ) (k : ℕ) : Type 0 where
-  pub rows : rows_at d l (take k numbers) ≡ kept f (take n l)
-  pub inside : (j : ℕ) → j < k → get_or numbers j 0 < n
-  pub fewer : k ≤ n
-  pub room : n ≤ length numbers
-
-pub record Shared (pending past : List (List ℕ)) (h : Heads) (page : ℕ) (share : Share) (row_numbers entry_numbers : List ℕ) : Type 0 where
-  pub past_rows : Numbered (past_of []) (row_of_page page) (pasts past) h.past row_numbers share.rows
-  pub entries : Numbered (pending_of []) (of_page page) (pendings pending) h.pending entry_numbers share.entries
 
 -- the numbers are those of the rows that pass, among the first n, in their order
 pub record NumberedAnew {A : Type 0} (d : A) (f : A → Bool) (l : List A) (n : ℕ) (numbers : List ℕ) : Type 0 where

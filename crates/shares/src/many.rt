@@ -1,152 +1,16 @@
 // A page as of many stamps at once: sixteen words for each stamp, and each row is laid over the stamps of its span alone.
-ghost use Rattle.std.specs.Prelude.{◌≡◌, Some, List, [], ℕ, ◌+◌, ◌*◌, ◌<◌, ◌≤◌, length, take, get_or, set, leb};
+ghost use Rattle.std.specs.Prelude.{◌≡◌, Some, List, [], ℕ, ◌+◌, ◌*◌, ◌<◌, ◌≤◌, length, get_or, set};
 ghost use Rattle.model.specs.Lists.{pick};
-ghost use Rattle.model.specs.Store.{page16, object_at, slot_of, in_span, pending_seen, past_seen};
-ghost use Rattle.tables.specs.Rows.{pending_of, past_of, pendings, pasts};
-ghost use Rattle.views.specs.Views.{part_of, part_of_anew, lay, Lookable, LookableAnew};
-ghost use Rattle.shares.specs.Shares.{rows_at, Shared, SharedAnew};
-ghost use Rattle.shares.specs.Many.{Ordered, FirstFrom, Pages, page_at, page_at_anew};
+ghost use Rattle.model.specs.Store.{page16, object_at, slot_of};
+ghost use Rattle.views.specs.Views.{part_of_anew, lay, LookableAnew};
+ghost use Rattle.shares.specs.Shares.{rows_at, SharedAnew};
+ghost use Rattle.shares.specs.Many.{Ordered, FirstFrom, Pages, page_at_anew};
 
-use crate::{Share, ShareAnew};
+use crate::ShareAnew;
 use model::{Past, Pending};
-use tables::{Disk, Heads, PastTable, PendingTable, Written};
+use tables::{Heads, Written};
+use views::Word;
 use views::rows::Row;
-use views::{View, Word};
-
-// The page's words on disk, n times.
-fn lay_disks(
-    disk: &Disk,
-    dated: &Disk,
-    page: u64,
-    ages: bool,
-    n: usize,
-    words: &mut [u64],
-    at: usize,
-)
-    requires { (length disk.now ≡ 512) × (length dated.now ≡ 512) × (page + 1 ≤ 32) × (at + 16 * n ≤ length words.old) }
-    ensures { (stamps : List ℕ) → length stamps ≡ n → Pages (λ _. page16 (λ k. part_of ages (record { value = get_or disk.now (object_at page k) 0; stamp = get_or dated.now (object_at page k) 0 }))) stamps at words.old words.new }
-{
-    let v = View {
-        page,
-        current: false,
-        stamp: 0,
-        ages,
-    };
-    let mut j: usize = 0;
-    while j < n {
-        let from = at + 16 * j;
-        views::lay_disk(disk, dated, v, &mut words[from..from + 16]);
-        j += 1;
-    }
-}
-
-// The row's word, at its slot, for each stamp of its span.
-fn lay_row(stamps: &[u64], q: Past, ages: bool, words: &mut [u64], at: usize)
-    requires { Ordered stamps.now × (at + 16 * length stamps.now ≤ length words.old) }
-    ensures { (f : ℕ → List ℕ) (w : List ℕ) → Pages f stamps.now at w words.old → Pages (λ s. pick (in_span s q) (set (f s) (slot_of q.object) (part_of ages (past_seen q))) (f s)) stamps.now at w words.new }
-{
-    let word = views::part(ages, q.value, q.from);
-    let slot = at + (q.object % 16) as usize;
-    let mut j = first_from(stamps, q.from);
-    while j < stamps.len() {
-        if q.until <= stamps[j] {
-            return;
-        }
-        words[slot + 16 * j] = word;
-        j += 1;
-    }
-}
-
-// The k rows that are numbered are laid, from the last to the first.
-fn lay_rows(
-    past: &PastTable,
-    numbers: &[u8; 256],
-    k: usize,
-    stamps: &[u64],
-    ages: bool,
-    words: &mut [u64],
-    at: usize,
-)
-    requires k_bound { (k ≤ 256) × (k ≤ length numbers.now) × ((j : ℕ) → j < k → get_or numbers.now j 0 < 256) }
-    requires ordered { Ordered stamps.now × (at + 16 * length stamps.now ≤ length words.old) }
-    ensures { (f : ℕ → List ℕ) (w : List ℕ) → Pages f stamps.now at w words.old → Pages (λ s. lay (in_span s) (λ q. slot_of q.object) (λ q. part_of ages (past_seen q)) (rows_at (past_of []) (pasts past.now) (take k numbers.now)) (f s)) stamps.now at w words.new }
-{
-    let mut j = k;
-    while 0 < j {
-        j -= 1;
-        let q = crate::row_at(past, numbers, j);
-        lay_row(stamps, q, ages, words, at);
-    }
-}
-
-// The entry's word, at its slot, for each stamp at or behind its latest write.
-fn lay_entry(stamps: &[u64], e: Pending, ages: bool, words: &mut [u64], at: usize)
-    requires { Ordered stamps.now × (at + 16 * length stamps.now ≤ length words.old) }
-    ensures { (f : ℕ → List ℕ) (w : List ℕ) → Pages f stamps.now at w words.old → Pages (λ s. pick (leb e.latest s) (set (f s) (slot_of e.object) (part_of ages (pending_seen e))) (f s)) stamps.now at w words.new }
-{
-    let word = views::part(ages, e.value, e.latest);
-    let slot = at + (e.object % 16) as usize;
-    let mut j = first_from(stamps, e.latest);
-    while j < stamps.len() {
-        words[slot + 16 * j] = word;
-        j += 1;
-    }
-}
-
-fn lay_entries(
-    pending: &PendingTable,
-    numbers: &[u8; 128],
-    k: usize,
-    stamps: &[u64],
-    ages: bool,
-    words: &mut [u64],
-    at: usize,
-)
-    requires k_bound { (k ≤ 128) × (k ≤ length numbers.now) × ((j : ℕ) → j < k → get_or numbers.now j 0 < 128) }
-    requires ordered { Ordered stamps.now × (at + 16 * length stamps.now ≤ length words.old) }
-    ensures { (f : ℕ → List ℕ) (w : List ℕ) → Pages f stamps.now at w words.old → Pages (λ s. lay (λ e. leb e.latest s) (λ e. slot_of e.object) (λ e. part_of ages (pending_seen e)) (rows_at (pending_of []) (pendings pending.now) (take k numbers.now)) (f s)) stamps.now at w words.new }
-{
-    let mut j = k;
-    while 0 < j {
-        j -= 1;
-        let e = crate::entry_at(pending, numbers, j);
-        lay_entry(stamps, e, ages, words, at);
-    }
-}
-
-// The page as of each stamp, where no copy serves.
-pub fn look_at_all(
-    disk: &Disk,
-    dated: &Disk,
-    pending: &PendingTable,
-    past: &PastTable,
-    h: Heads,
-    share: Share,
-    row_numbers: &[u8; 256],
-    entry_numbers: &[u8; 128],
-    page: u64,
-    ages: bool,
-    stamps: &[u64],
-    words: &mut [u64],
-    at: usize,
-)
-    requires lookable { Lookable disk.now dated.now pending.now past.now h page }
-    requires shared { Shared pending.now past.now h page share row_numbers.now entry_numbers.now }
-    requires ordered { Ordered stamps.now × (at + 16 * length stamps.now ≤ length words.old) }
-    ensures { Pages (page_at disk.now dated.now pending.now past.now h page ages) stamps.now at words.old words.new }
-{
-    lay_disks(disk, dated, page, ages, stamps.len(), words, at);
-    lay_rows(past, row_numbers, share.rows, stamps, ages, words, at);
-    lay_entries(
-        pending,
-        entry_numbers,
-        share.entries,
-        stamps,
-        ages,
-        words,
-        at,
-    );
-}
 
 // The page's words on disk, n times.
 fn lay_disk_words(w: &Written, page: u64, word: Word, n: usize, words: &mut [u64], at: usize)

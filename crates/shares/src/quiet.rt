@@ -1,15 +1,12 @@
 // The newest of a page's writing stamps up to a bound: behind it, and up to the bound, nothing of the page was written.
-ghost use Rattle.std.specs.Prelude.{◌≡◌, [], ℕ, ◌+◌, ◌<◌, ◌≤◌, length, take, get_or};
-ghost use Rattle.model.specs.Lists.{kept};
-ghost use Rattle.model.specs.Changes.{of_page};
+ghost use Rattle.std.specs.Prelude.{◌≡◌, ℕ, ◌+◌, ◌<◌, ◌≤◌, length, get_or};
 ghost use Rattle.model.specs.Store.{object_at};
-ghost use Rattle.tables.specs.Rows.{pending_of, past_of, pendings, pasts};
-ghost use Rattle.shares.specs.Shares.{row_of_page, rows_at, Numbered, Shared, SharedAnew};
-ghost use Rattle.shares.specs.Lulls.{newer_of, newest_of, Still, StillAnew};
+ghost use Rattle.shares.specs.Shares.{rows_at, SharedAnew};
+ghost use Rattle.shares.specs.Lulls.{newer_of, newest_of, StillAnew};
 
-use crate::{Share, ShareAnew};
+use crate::ShareAnew;
 use model::{Past, Pending};
-use tables::{Disk, Heads, PastTable, PendingTable, Written};
+use tables::{Disk, Heads, Written};
 use views::rows::Row;
 
 // The larger of a stamp and the newest so far, where it isn't beyond the bound.
@@ -23,52 +20,6 @@ fn newer(newest: u64, stamp: u64, bound: u64) -> u64
     }
 }
 
-// The newest of a stamp and of those up to the bound that wrote the page's past rows.
-fn newest_row(
-    past: &PastTable,
-    n: usize,
-    page: u64,
-    numbers: &[u8; 256],
-    k: usize,
-    bound: u64,
-    least: u64,
-) -> u64
-    requires { Numbered (past_of []) (row_of_page page) (pasts past.now) n numbers.now k × (n ≤ 256) }
-    ensures { result ≡ newest_of (λ q. q.from) bound least (kept (row_of_page page) (take n (pasts past.now))) }
-{
-    let mut newest = least;
-    let mut j: usize = 0;
-    while j < k {
-        let q = crate::row_at(past, numbers, j);
-        newest = newer(newest, q.from, bound);
-        j += 1;
-    }
-    newest
-}
-
-// The same of the page's entries.
-fn newest_entry(
-    pending: &PendingTable,
-    n: usize,
-    page: u64,
-    numbers: &[u8; 128],
-    k: usize,
-    bound: u64,
-    least: u64,
-) -> u64
-    requires { Numbered (pending_of []) (of_page page) (pendings pending.now) n numbers.now k × (n ≤ 128) }
-    ensures { result ≡ newest_of (λ e. e.latest) bound least (kept (of_page page) (take n (pendings pending.now))) }
-{
-    let mut newest = least;
-    let mut j: usize = 0;
-    while j < k {
-        let e = crate::entry_at(pending, numbers, j);
-        newest = newer(newest, e.latest, bound);
-        j += 1;
-    }
-    newest
-}
-
 // The newest of the stamps that wrote the page's values on disk: as of every stamp they are what shows where nothing else does.
 fn newest_on_disk(dated: &Disk, page: u64) -> u64
     requires { page < 32 }
@@ -80,36 +31,6 @@ fn newest_on_disk(dated: &Disk, page: u64) -> u64
         newest = newest.max(*stamp);
     }
     newest
-}
-
-// The newest of the page's stamps on disk, and of those up to the bound that wrote its past rows and its entries.
-pub fn newest_up_to(
-    dated: &Disk,
-    pending: &PendingTable,
-    past: &PastTable,
-    h: Heads,
-    page: u64,
-    share: Share,
-    row_numbers: &[u8; 256],
-    entry_numbers: &[u8; 128],
-    bound: u64,
-) -> u64
-    requires shared { Shared pending.now past.now h page share row_numbers.now entry_numbers.now × (h.pending ≤ 128) × (h.past ≤ 256) }
-    requires dated_len { (length dated.now ≡ 512) × (page < 32) }
-    ensures still { Still pending.now past.now h page (record { from = result; until = bound + 1 }) }
-    ensures by_index { (k : ℕ) → k < 16 → get_or dated.now (object_at page k) 0 ≤ result }
-{
-    let a = newest_on_disk(dated, page);
-    let b = newest_row(past, h.past, page, row_numbers, share.rows, bound, a);
-    newest_entry(
-        pending,
-        h.pending,
-        page,
-        entry_numbers,
-        share.entries,
-        bound,
-        b,
-    )
 }
 
 // The newest of a stamp and of those up to the bound that wrote the numbered rows.

@@ -1,40 +1,24 @@
 -- Rows laid over words: a turn from the last row to the first, and what then stands at each slot.
 use Prim.Native.Nat.{ℕ, zero, suc, ◌-◌, ◌≤◌, ◌<◌}
 use mathlib.Core.Path.{◌≡◌, refl, ap, sym, ◌∙◌, subst}
-use mathlib.Core.Bool.{Bool, true, false}
+use mathlib.Core.Bool.{Bool, false}
 use mathlib.Core.List.{List, [], ◌∷◌}
 use native.Mathlib.Omega.{arith}
 use lib.ListN.{length, take, drop, get_or, set, length-set}
 use lib.Seq.{get_or-set_same, get_or-set_other}
 use lib.Dec.{eqb}
 use borrow.Author.Tests.{eqb-true, eqb-false}
-use Rattle.model.specs.declared.Pending.{Pending}
-use Rattle.model.specs.declared.Past.{Past}
 use Rattle.model.specs.Lists.{both, pick}
-use Rattle.model.specs.Store.{page16, slot_of, pending_seen, past_seen}
+use Rattle.model.specs.Store.{page16}
 use Rattle.tables.specs.Lookups.{trimmed}
-use Rattle.tables.proofs.Backward.{Turn, back_cons, back_end}
+use Rattle.tables.proofs.Backward.{Turn, back_cons}
 use Rattle.tables.proofs.Trims.{trim_keeps}
 use Rattle.tables.proofs.Cases.{by_test}
-use Rattle.views.specs.declared.View.{View}
-use Rattle.views.specs.Views.{part_of, covers_b, shows_b, lay}
+use Rattle.views.specs.Views.{lay}
 use Rattle.views.proofs.Pages.{page_length, page_at_lem, page_of_lem}
-
--- ---- the rows and the entries that a view shows
-abbrev pub past_over : View → List Past → List ℕ → List ℕ
-past_over v = lay (covers_b v) (λ q. slot_of q.object) (λ q. part_of v.ages (past_seen q))
-
-abbrev pub pending_over : View → List Pending → List ℕ → List ℕ
-pending_over v = lay (shows_b v) (λ e. slot_of e.object) (λ e. part_of v.ages (pending_seen e))
 
 -- ---- a word put at a slot where a test passes
 module _ (b : Bool) (out : List ℕ) (k x : ℕ) where
-  pub put_yes : {w : ℕ} → b ≡ true → w ≡ x → set out k w ≡ pick b (set out k x) out
-  put_yes e q = rw (e, q)
-
-  pub put_no : b ≡ false → out ≡ pick b (set out k x) out
-  put_no e = rw e
-
   pub put_length : {y : List ℕ} {n : ℕ} → y ≡ pick b (set out k x) out → length out ≡ n → length y ≡ n
   put_length e q = ap length e ∙ by_test b (λ z. rw (z, length-set) q) (λ z. rw z q)
 
@@ -48,10 +32,7 @@ module _ {A : Type 0} (f : A → Bool) (slot word : A → ℕ) where
     pub lay_more : {x : A} {y : List ℕ} → x ≡ get_or l (i - 1) d → y ≡ pick (f x) (set out (slot x) (word x)) out → y ≡ lay f slot word (drop (i - 1) (take n l)) out₀
     lay_more p e = e ∙ rw (back_cons t d, ← p, v)
 
-    pub lay_yes : {x : A} {w : ℕ} → x ≡ get_or l (i - 1) d → f x ≡ true → w ≡ word x → set out (slot x) w ≡ lay f slot word (drop (i - 1) (take n l)) out₀
-    lay_yes p e q = rw (back_cons t d, ← p, e, v, q)
-
-    pub lay_no : {x : A} → x ≡ get_or l (i - 1) d → f x ≡ false → out ≡ lay f slot word (drop (i - 1) (take n l)) out₀
+    lay_no : {x : A} → x ≡ get_or l (i - 1) d → f x ≡ false → out ≡ lay f slot word (drop (i - 1) (take n l)) out₀
     lay_no p e = rw (back_cons t d, ← p, e) v
 
   -- rows that a narrower test leaves out are passed by
@@ -67,9 +48,6 @@ module _ {A : Type 0} (f : A → Bool) (slot word : A → ℕ) where
       let t : Turn l n (suc k) = record { left = omega arith; inside = omega arith; rows = h } in
       subst P (sym q) (lay_no t d out₀ u (ap (λ j. get_or l j d) q) (other (get_or l k d) z)))
       v)
-
-  pub lay_end : (i : ℕ) (l : List A) (out : List ℕ) → i ≤ 0 → lay f slot word (drop i l) out ≡ lay f slot word l out
-  lay_end i l out h = rw (back_end i l h)
 
   pub lay_none : (n : ℕ) (l : List A) (out : List ℕ) → n ≤ 0 → out ≡ lay f slot word (take n l) out
   lay_none zero l out h = refl

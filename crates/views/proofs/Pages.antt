@@ -1,12 +1,12 @@
 -- Sixteen words by their slots: a list that is a page, those from a place on, and how they are copied and replaced.
 use Prim.Native.Nat.{ℕ, zero, suc, ◌+◌, ◌≤◌, ◌<◌}
-use mathlib.Core.Path.{◌≡◌, refl, ap, sym, ◌∙◌, subst}
+use mathlib.Core.Path.{◌≡◌, refl, ap, sym, ◌∙◌}
 use mathlib.Core.Bool.{Bool}
 use mathlib.Core.List.{List, ◌∷◌, ◌++◌, append-nil}
 use native.Mathlib.Omega.{arith}
 use native.Mathlib.Numerals.{add-one}
 use lib.ListN.{length, take, drop, get_or, set, length-take, length-drop, drop_of_length-le}
-use lib.Seq.{ext_get_or, get_or-take, get_or-drop, take_all, take-suc, take-suc-set, drop-cons, append_snoc, set_at, length-take-le}
+use lib.Seq.{ext_get_or, get_or-take, get_or-drop, take_all, take-suc, drop-cons, append_snoc, set_at, length-take-le}
 use Rattle.model.specs.Lists.{pick, tab}
 use Rattle.model.specs.Store.{page16}
 use Rattle.tables.proofs.Cases.{by_test}
@@ -40,20 +40,6 @@ pub page_cut : (words : List ℕ) (at : ℕ) → at + 16 ≤ length words → ta
 page_cut words at h =
     page_of_lem (take 16 (drop at words)) (λ k. get_or words (at + k) 0) (simp (length-take, length-drop) (omega arith))
     (λ k b. get_or-take 16 (drop at words) k 0 b ∙ get_or-drop at words k 0)
-
--- ---- words copied one by one
-module _ (words out : List ℕ) (at k : ℕ) (e : take k out ≡ take k (drop at words)) where
-  pub copy_more : k < length out → at + k < length words → take (k + 1) (set out k (get_or words (at + k) 0)) ≡ take (k + 1) (drop at words)
-  copy_more h m =
-      let l : k < length (drop at words) = simp length-drop (omega arith) in
-      rw (add-one, take-suc-set out k, take-suc (drop at words) k 0, get_or-drop, e)
-
-  pub copy_end : k ≡ 16 → length out ≤ 16 → out ≡ take 16 (drop at words)
-  copy_end q h = sym (take_all 16 out h) ∙ subst (λ n. take n out ≡ take n (drop at words)) q e
-
--- sixteen words that were taken, taken again
-pub taken_again : (words : List ℕ) → take 16 (drop 0 (take 16 words)) ≡ take 16 words
-taken_again words = take_all 16 (take 16 words) (simp length-take (omega arith))
 
 -- ---- words replaced one by one: the first k of d by those of l
 module _ (l d : List ℕ) (k : ℕ) {out : List ℕ} (o : out ≡ take k l ++ drop k d) where
