@@ -40,7 +40,7 @@ impl PlanAnew {
     }
 }
 
-// A contract knows the length of a lent array, and not of an array in a struct further in. Compiled, nothing is left of these two.
+// Kept: a contract knows the length of a lent array, and not of an array in a struct further in. Compiled, nothing is left of these two.
 fn whole(store: &Store)
     ensures { Whole store.now }
 {
