@@ -24,6 +24,7 @@ fn commit_shaped(journal: &[u8], used: Place, objects: &[u64], values: &[u64]) -
 }
 
 // The tests that need no table: a refusal is the one that an undamaged store gives.
+#[inline(always)]
 pub fn formed(journal: &[u8], used: Place, objects: &[u64], values: &[u64]) -> Result<(), Answer>
     ensures { MatchResult result (λ _. Formed objects.now values.now journal.now used.at) (λ a. (st : model.Store) (t : ℕ) → damaged st ≡ false → Left (commit_call st journal.now used.at t objects.now values.now) a st journal.now used.at) }
 {
@@ -37,6 +38,7 @@ pub fn formed(journal: &[u8], used: Place, objects: &[u64], values: &[u64]) -> R
 }
 
 // A commit where some entry is pending.
+#[inline(always)]
 fn rewrite(
     store: &mut Store,
     journal: &mut [u8],

@@ -11,6 +11,7 @@ use journal::place::Place;
 use model::Answer;
 use tables::Store;
 
+#[inline(always)]
 fn flush_page(
     store: &mut Store,
     journal: &mut [u8],

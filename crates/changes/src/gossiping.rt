@@ -12,8 +12,7 @@ use journal::place::Place;
 use model::Answer;
 use tables::Store;
 
-// What is left where damage and shape are tested: the store's verdict, the journal's room, and the two writers. Inlined: behind a
-// call the answer would go through memory.
+// What is left where damage and shape are tested: the store's verdict, the journal's room, and the two writers.
 #[inline(always)]
 pub fn take_anew(
     store: &mut Store,
@@ -34,6 +33,7 @@ pub fn take_anew(
     Ok(used.append_gossip(journal, prev, curr, stamps))
 }
 
+#[inline(always)]
 fn tested(
     store: &mut Store,
     journal: &mut [u8],

@@ -1,5 +1,6 @@
 // Commit, gossip and flush with their journal. None requires anything. Each judges everything, the room last, before it writes
 // anything, so a refused call has written nothing.
+// The parts of a call are inlined: behind a call of their own, results go through memory.
 #![tactic(auto)]
 
 // Kept: the three calls share damage first, the journal's room last and the record, but each has arguments, tests and a judge's findings of

@@ -18,6 +18,7 @@ pub struct ChangedAnew {
 
 impl ChangedAnew {
     // A change that was made goes on behind its record, a refused one where it was called.
+    #[inline(always)]
     pub fn told(made: Result<Place, Answer>, used: Place) -> ChangedAnew
         ensures { MatchResult made (λ p. result ≡ record { answer = Done p.at; place = p }) (λ a. result ≡ record { answer = a; place = used }) }
     {
@@ -42,6 +43,7 @@ pub fn journal_shaped(journal: &[u8], used: Place) -> bool
 }
 
 // A verdict with the journal's room, the last test. `length` is what the record's length field says.
+#[inline(always)]
 pub fn settled_anew(
     verdict: Verdict,
     journal: &[u8],

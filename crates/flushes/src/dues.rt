@@ -6,8 +6,8 @@ ghost use Rattle.shares.specs.Shares.{SharedAnew};
 ghost use Rattle.flushes.specs.Parts.{seen_in, dues_seen, Telling, ListedTo, top};
 ghost use Rattle.flushes.specs.Promises.{ReadyAnew};
 
-use crate::due::Stamps;
 use shares::ShareAnew;
+use shares::listed::Listed;
 use tables::{Snapshots, Store};
 use views::{ViewAnew, Word};
 
@@ -19,7 +19,13 @@ fn some_beyond(words: &[u64], s: u64) -> bool
 }
 
 // Of the snapshots from low to high, those that their sixteen ages tell due.
-fn find_dues(snapshots: &Snapshots, low: usize, high: usize, ages: &[u64], due: &mut Stamps)
+fn find_dues(
+    snapshots: &Snapshots,
+    low: usize,
+    high: usize,
+    ages: &[u64],
+    due: &mut Listed<u64, 64>,
+)
     requires { (high ≤ 64) × (16 * (high - low) ≤ length ages.now) × (low ≤ high) × (due.old ≡ []) }
     ensures upper_bound { length due.new ≤ high - low }
     ensures listed_to { (st : model.Store) (p m n : ℕ) → high ≤ n → n ≤ 64 → Telling st p m snapshots.now n low high ages.now → ListedTo st p m (take n snapshots.now) low high due.new }
@@ -41,7 +47,7 @@ fn list_within(
     low: usize,
     high: usize,
     ages: &mut [u64],
-    due: &mut Stamps,
+    due: &mut Listed<u64, 64>,
 )
     requires ready { ReadyAnew store.now page }
     requires shared { SharedAnew store.now.written store.now.heads page share.now }
@@ -71,7 +77,7 @@ fn list_between(
     share: &ShareAnew,
     low: usize,
     high: usize,
-    due: &mut Stamps,
+    due: &mut Listed<u64, 64>,
 )
     requires ready { ReadyAnew store.now page }
     requires shared { SharedAnew store.now.written store.now.heads page share.now }
@@ -91,7 +97,13 @@ fn list_between(
 
 // Lists the due snapshots. None up to the mark is due, and none at or behind the newest stamp that
 // wrote the page by the last snapshot, but perhaps this last one. The ages as of the next snapshot tell the others.
-pub fn list_dues(store: &Store, page: u64, share: &ShareAnew, marked: u64, due: &mut Stamps)
+pub fn list_dues(
+    store: &Store,
+    page: u64,
+    share: &ShareAnew,
+    marked: u64,
+    due: &mut Listed<u64, 64>,
+)
     requires ready { ReadyAnew store.now page }
     requires shared { SharedAnew store.now.written store.now.heads page share.now }
     ensures { due.new ≡ dues_seen (seen_in store.now.written store.now.heads) page marked (take store.now.heads.snapshots store.now.snapshots) }

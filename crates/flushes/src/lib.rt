@@ -2,7 +2,6 @@
 #![tactic(auto)]
 
 mod archive;
-mod due;
 mod dues;
 mod judge;
 mod rows;
@@ -14,10 +13,10 @@ ghost use Rattle.model.specs.Judgement.{judge_flush};
 ghost use Rattle.tables.specs.Contents.{stored, Laid};
 ghost use Rattle.flushes.specs.Promises.{Whole, ReadyAnew, PlannedAnew, Room, AppliedAnew};
 
-use due::Stamps;
 use model::Verdict;
 use rows::Rule;
 use shares::ShareAnew;
+use shares::listed::Listed;
 use tables::{Copied, CopyTable, Disk, PastTable, PendingTable, Snapshots, Store};
 
 // What the judge found and the writer needs: the page's share of the tables, the due snapshots, the page's mark after the flush,
@@ -25,7 +24,7 @@ use tables::{Copied, CopyTable, Disk, PastTable, PendingTable, Snapshots, Store}
 #[derive(Drop)]
 pub struct PlanAnew {
     share: ShareAnew,
-    due: Stamps,
+    due: Listed<u64, 64>,
     mark: u64,
     staying: usize,
 }
@@ -34,14 +33,14 @@ impl PlanAnew {
     pub fn empty() -> Self {
         PlanAnew {
             share: ShareAnew::none(),
-            due: Stamps::none(),
+            due: Listed::none(0),
             mark: 0,
             staying: 0,
         }
     }
 }
 
-// A contract knows the length of a lent array, and not of an array in a struct further in. Compiled, nothing is left of these two.
+// Kept: a contract knows the length of a lent array, and not of an array in a struct further in. Compiled, nothing is left of these two.
 fn whole(store: &Store)
     ensures { Whole store.now }
 {
