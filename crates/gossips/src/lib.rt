@@ -33,11 +33,10 @@ fn differing(known: &[u64], prev: u64, upto: u64, stamps: &[u64]) -> Option<u64>
 {
     let heard = &known[count_known(known, prev)..];
     for (i, y) in heard.iter().enumerate() {
-        let x = told(stamps, upto, i);
         if upto < *y {
-            return x;
+            return told(stamps, upto, i);
         }
-        match x {
+        match told(stamps, upto, i) {
             None => return Some(*y),
             Some(x) => {
                 if x != *y {
