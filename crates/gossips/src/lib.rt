@@ -183,7 +183,8 @@ pub fn judge_gossip_anew(store: &Store, prev: u64, curr: u64, stamps: &[u64]) ->
     )
 }
 
-// The past values have the rows of their type, which a contract knows of a table, and not of one in a struct in a struct.
+// The past values have the rows of their type.
+// Kept: a contract knows the rows of a table that is lent or stands in a lent struct, and not of one in a struct in that.
 fn rows(written: &Written)
     ensures { length (pasts written.now.past) ≡ 256 }
 {
