@@ -113,7 +113,7 @@ pub fn judge_gossip(
 
 // Writes the stamps beyond the horizon behind the first n snapshots; the result is the new count.
 fn add_known(snapshots: &mut Snapshots, n: usize, horizon: u64, stamps: &[u64]) -> usize
-    requires { (length snapshots.old ≡ 64) × (n + length (kept (ltb horizon) stamps.now) ≤ 64) × (rising_from 0 stamps.now ≡ true) }
+    requires { (n + length (kept (ltb horizon) stamps.now) ≤ 64) × (rising_from 0 stamps.now ≡ true) }
     ensures { Added snapshots.old snapshots.new n result horizon stamps.now }
 {
     let new = &stamps[count_known(stamps, horizon)..];
