@@ -142,19 +142,19 @@ module _ (s : whole.Store) (t : ℕ) (os : List ℕ) where
     more_past vs l = omega (arith, past_growth t os vs (last_at (stored s) t) l d, up_to_length (past_of []) s.heads.past (pasts s.written.past))
 
   module _ {latest : ℕ} (late : latest ≡ max s.heads.last s.heads.horizon) (d : twice_b os ≡ false) where
-    pub late_anew : t ≤ latest → Judges (Refused (Late latest))
-    late_anew b vs l = ap (λ n. Refused (Late n)) late ∙ say_late (stored s) t (paired os vs) (omega arith)
+    pub judged_late_anew : t ≤ latest → Judges (Refused (Late latest))
+    judged_late_anew b vs l = ap (λ n. Refused (Late n)) late ∙ say_late (stored s) t (paired os vs) (omega arith)
 
     module _ (b : latest < t) {n : ℕ} (e : n ≡ trues (map (new_in (stored s).pending) os)) where
-      pub pending_anew : 128 - s.heads.pending < n → Judges (Refused PendingFull)
-      pending_anew f vs l = say_pending (stored s) t (paired os vs) (omega arith) (omega arith) (omega (arith, more_pending d vs l))
+      pub judged_pending_anew : 128 - s.heads.pending < n → Judges (Refused PendingFull)
+      judged_pending_anew f vs l = say_pending (stored s) t (paired os vs) (omega arith) (omega arith) (omega (arith, more_pending d vs l))
 
       module _ (f : n ≤ 128 - s.heads.pending) (c : Counted s.heads) {m : ℕ} (k : m ≡ trues (map (displaces_in (live_in (stored s)) t (stored s).pending) os)) where
-        pub past_anew : 256 - s.heads.past < m → Judges (Refused PastFull)
-        past_anew g vs l = say_past (stored s) t (paired os vs) (omega arith) (omega arith) (omega (arith, more_pending d vs l)) (omega (arith, more_past d vs l))
+        pub judged_past_anew : 256 - s.heads.past < m → Judges (Refused PastFull)
+        judged_past_anew g vs l = say_past (stored s) t (paired os vs) (omega arith) (omega arith) (omega (arith, more_pending d vs l)) (omega (arith, more_past d vs l))
 
-        pub accepted_anew : m ≤ 256 - s.heads.past → Judges Accepted
-        accepted_anew g vs l = say_accepted (stored s) t (paired os vs) (omega arith) (omega arith) (omega (arith, more_pending d vs l)) (omega (arith, more_past d vs l))
+        pub judged_accepted_anew : m ≤ 256 - s.heads.past → Judges Accepted
+        judged_accepted_anew g vs l = say_accepted (stored s) t (paired os vs) (omega arith) (omega arith) (omega (arith, more_pending d vs l)) (omega (arith, more_past d vs l))
 
 -- where there is room
 module _ (s : whole.Store) (t : ℕ) {latest : ℕ} (late : latest ≡ max s.heads.last s.heads.horizon) where

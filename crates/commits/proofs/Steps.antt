@@ -34,7 +34,7 @@ module _ (s : Store) (q : Past) where
       let b : s.heads.past < length (pasts s.written.past) = omega arith in
       record {
         contains =
-          rw (e, up_to_take (past_of []) (s.heads.past + 1) (pasts past') (omega arith), up_to_take (past_of []) s.heads.past (pasts s.written.past) (omega arith), w, add-one, take-suc-set (pasts s.written.past) s.heads.past);
+            rw (e, up_to_take (past_of []) (s.heads.past + 1) (pasts past') (omega arith), up_to_take (past_of []) s.heads.past (pasts s.written.past) (omega arith), w, add-one, take-suc-set (pasts s.written.past) s.heads.past);
         count = omega arith;
         same = refl;
       }

@@ -50,11 +50,7 @@ fn write_new(store: &mut Store, t: u64, object: u64, value: u64)
         latest: t,
         value,
     };
-    tables::put_pending(
-        &mut store.written.pending,
-        store.heads.pending,
-        new,
-    );
+    tables::put_pending(&mut store.written.pending, store.heads.pending, new);
     store.heads.pending += 1;
 }
 

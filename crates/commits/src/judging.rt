@@ -20,7 +20,8 @@ fn newest(h: Heads) -> u64
     h.last.max(h.horizon)
 }
 
-// The tables that a commit writes have the rows of their types. A contract knows that of a table, and not of one in a struct in a struct.
+// The tables that a commit writes have the rows of their types.
+// Kept: a contract knows the rows of a table that is lent or stands in a lent struct, and not of one in a struct in that.
 pub(crate) fn rows(written: &Written)
     ensures { (length (pendings written.now.pending) ≡ 128) × (length (pasts written.now.past) ≡ 256) }
 {
@@ -40,6 +41,7 @@ fn close(e: Pending, object: u64, t: u64) -> Past
 }
 
 // A past value is live, by the snapshots and the copies that the heads count.
+#[tactic(auto, using(tables::proofs::Rows::copies_length))]
 fn lives(store: &Store, q: Past) -> bool
     requires { Sound store.now }
     ensures { result ≡ live_in (stored store.now) q }
@@ -68,11 +70,7 @@ pub(crate) fn displaced(store: &Store, row: usize, object: u64, t: u64) -> Optio
     requires { Sound store.now × (row < 128) }
     ensures { MatchOption result (live_in (stored store.now) (value_at store.now row object t) ≡ false) (λ q. (q ≡ value_at store.now row object t) × (live_in (stored store.now) q ≡ true)) }
 {
-    let q = close(
-        tables::pending_at(&store.written.pending, row),
-        object,
-        t,
-    );
+    let q = close(tables::pending_at(&store.written.pending, row), object, t);
     if lives(store, q) {
         return Some(q);
     }

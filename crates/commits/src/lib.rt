@@ -1,12 +1,9 @@
 // A commit without its journal: judged over the tables, then written to them. Restart uses both as they stand.
 #![tactic(auto)]
 
+mod applying;
 pub mod fitting;
 mod judging;
-mod applying;
-
-pub use judging::{judge_commit_anew, judge_with_room_anew};
-pub use applying::{add_all_anew, apply_commit_anew};
 
 ghost use Rattle.std.specs.Prelude.{◌≡◌, true, false, List, map, ℕ, ◌+◌, ◌≤◌, ◌<◌, max, length, take, leb};
 ghost use Rattle.model.specs.declared.Pending.{Pending};
@@ -19,6 +16,8 @@ ghost use Rattle.tables.specs.Contents.{contents, Counted};
 ghost use Rattle.commits.specs.Rows.{trues, new_in, live_by, displaces_in};
 ghost use Rattle.commits.specs.Promises.{Ready, OneReady, Room, Applied, Wrote, Added, past_with, grown};
 
+pub use applying::{add_all_anew, apply_commit_anew};
+pub use judging::{judge_commit_anew, judge_with_room_anew};
 use model::{Answer, Past, Pending, Verdict};
 use tables::{CopyTable, Heads, Index, PastTable, PendingTable, Snapshots};
 

@@ -4,7 +4,7 @@ use Prim.Native.Nat.{ℕ}
 use mathlib.Core.Path.{◌≡◌, refl, sym, ap, ◌∙◌}
 use mathlib.Core.Bool.{Bool}
 use mathlib.Core.List.{List, [], ◌∷◌}
-use lib.ListN.{length, drop, get_or}
+use lib.ListN.{drop}
 use lib.Dec.{ltb, leb}
 use Rattle.model.specs.Lists.{both, kept}
 use Rattle.model.specs.Judgement.{compared}

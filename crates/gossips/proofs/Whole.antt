@@ -12,7 +12,7 @@ use Rattle.model.specs.Changes.{gossip_store}
 use Rattle.tables.specs.declared.Store.{Store}
 use Rattle.tables.specs.Rows.{past_of, pasts, copy_heads, copies_of, up_to}
 use Rattle.tables.specs.Lookups.{stays_by}
-use Rattle.tables.specs.Contents.{stored, Counted}
+use Rattle.tables.specs.Contents.{Counted}
 use Rattle.tables.proofs.Copies.{no_copy, copies_of_length}
 use Rattle.tables.proofs.Counts.{up_to_take}
 use Rattle.tables.proofs.Bridges.{kept_every}
@@ -32,13 +32,13 @@ module _ (s : Store) (horizon : ℕ) (c : Counted s.heads) (l : length s.snapsho
       let w : s.heads.copies ≤ length (copies_of (copy_heads s.copies) s.copied) = rw (copies_of_length (copy_heads s.copies) s.copied) (omega arith) in
       record {
         live =
-          rw (
-            up_to_take (past_of []) r (pasts past') (omega (arith, d.2)),
-            up_to_take 0 s.heads.snapshots s.snapshots (omega arith),
-            up_to_take no_copy s.heads.copies (copies_of (copy_heads s.copies) s.copied) w,
-            up_to_take (past_of []) s.heads.past (pasts s.written.past) (omega arith),
-          )
-          (d.0 ∙ kept_every horizon (take s.heads.snapshots s.snapshots) marks (take s.heads.copies (copies_of (copy_heads s.copies) s.copied)) (e s.copied) (take s.heads.past (pasts s.written.past)));
+            rw (
+              up_to_take (past_of []) r (pasts past') (omega (arith, d.2)),
+              up_to_take 0 s.heads.snapshots s.snapshots (omega arith),
+              up_to_take no_copy s.heads.copies (copies_of (copy_heads s.copies) s.copied) w,
+              up_to_take (past_of []) s.heads.past (pasts s.written.past) (omega arith),
+            )
+            (d.0 ∙ kept_every horizon (take s.heads.snapshots s.snapshots) marks (take s.heads.copies (copies_of (copy_heads s.copies) s.copied)) (e s.copied) (take s.heads.past (pasts s.written.past)));
         count = n;
         same = refl;
       }

@@ -1,12 +1,12 @@
 -- What the writer of a gossip message asks and promises. The tables that it isn't lent may be any.
-use Rattle.std.specs.Prelude.{ℕ, ◌+◌, ◌≤◌, ◌<◌, ◌≡◌, true, List, [], ◌∷◌, ◌++◌, length, take, drop, ltb, leb, Option, Some, None}
+use Rattle.std.specs.Prelude.{ℕ, ◌+◌, ◌≤◌, ◌≡◌, true, List, [], ◌∷◌, ◌++◌, length, take, drop, ltb, leb, Option, Some, None}
 use Rattle.model.specs.Lists.{all_b, kept, rising_from}
 use Rattle.model.specs.Store.{live_b}
 use Rattle.model.specs.Judgement as judgement
 use Rattle.model.specs.Changes.{gossip_store}
 use Rattle.tables.specs.declared.Heads.{Heads}
 use Rattle.tables.specs.declared.Store.{Store}
-use Rattle.tables.specs.Rows.{past_of, pasts, copy_heads, copies_of, up_to}
+use Rattle.tables.specs.Rows.{pasts, copy_heads, copies_of}
 use Rattle.tables.specs.Contents.{contents, stored, Counted}
 
 -- the first stamp in which two lists differ, where they do

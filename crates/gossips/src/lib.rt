@@ -33,11 +33,10 @@ fn differing(known: &[u64], prev: u64, upto: u64, stamps: &[u64]) -> Option<u64>
 {
     let heard = &known[count_known(known, prev)..];
     for (i, y) in heard.iter().enumerate() {
-        let x = told(stamps, upto, i);
         if upto < *y {
-            return x;
+            return told(stamps, upto, i);
         }
-        match x {
+        match told(stamps, upto, i) {
             None => return Some(*y),
             Some(x) => {
                 if x != *y {
@@ -50,18 +49,17 @@ fn differing(known: &[u64], prev: u64, upto: u64, stamps: &[u64]) -> Option<u64>
 }
 
 // How many of the stamps, which ascend, lie up to the horizon.
+// Kept: steps of eight, for a search by halves takes twice as long at a message of which every stamp is new.
 fn count_known(stamps: &[u64], horizon: u64) -> usize
     requires { rising_from 0 stamps.now ≡ true }
     ensures { (kept (ltb horizon) stamps.now ≡ drop result stamps.now) × (result ≤ length stamps.now) }
 {
-    let mut i = leap(stamps, horizon);
-    while i < stamps.len() {
+    for i in leap(stamps, horizon)..stamps.len() {
         if horizon < stamps[i] {
             return i;
         }
-        i += 1;
     }
-    i
+    stamps.len()
 }
 
 // Eight stamps at a step: how many are passed while the last of a step is up to the horizon.
@@ -69,14 +67,13 @@ fn leap(stamps: &[u64], horizon: u64) -> usize
     requires { rising_from 0 stamps.now ≡ true }
     ensures { (kept (ltb horizon) stamps.now ≡ kept (ltb horizon) (drop result stamps.now)) × (result ≤ length stamps.now) }
 {
-    let mut k: usize = 0;
-    while k + 8 <= stamps.len() {
-        if horizon < stamps[k + 7] {
-            return k;
+    let steps = stamps.len() / 8;
+    for k in 0..steps {
+        if horizon < stamps[8 * k + 7] {
+            return 8 * k;
         }
-        k += 8;
     }
-    k
+    8 * steps
 }
 
 // What a store with these snapshots and this horizon says of the message, whatever else it holds.
@@ -111,18 +108,12 @@ pub fn judge_gossip(
     requires { (length snapshots.now ≡ 64) × (h.snapshots ≤ 64) × (length stamps.now ≤ 16) × (rising_from prev stamps.now ≡ true) × (rising_from 0 (take h.snapshots snapshots.now) ≡ true) }
     ensures { (disk dated : List ℕ) (pending past copies : List (List ℕ)) (copied : List ℕ) → result ≡ judge_gossip (contents disk dated pending past snapshots.now copies copied h) prev curr stamps.now }
 {
-    judge(
-        &snapshots[..h.snapshots],
-        h.horizon,
-        prev,
-        curr,
-        stamps,
-    )
+    judge(&snapshots[..h.snapshots], h.horizon, prev, curr, stamps)
 }
 
 // Writes the stamps beyond the horizon behind the first n snapshots; the result is the new count.
 fn add_known(snapshots: &mut Snapshots, n: usize, horizon: u64, stamps: &[u64]) -> usize
-    requires { (length snapshots.old ≡ 64) × (n + length (kept (ltb horizon) stamps.now) ≤ 64) × (rising_from 0 stamps.now ≡ true) }
+    requires { (n + length (kept (ltb horizon) stamps.now) ≤ 64) × (rising_from 0 stamps.now ≡ true) }
     ensures { Added snapshots.old snapshots.new n result horizon stamps.now }
 {
     let new = &stamps[count_known(stamps, horizon)..];
@@ -192,7 +183,8 @@ pub fn judge_gossip_anew(store: &Store, prev: u64, curr: u64, stamps: &[u64]) ->
     )
 }
 
-// The past values have the rows of their type, which a contract knows of a table, and not of one in a struct in a struct.
+// The past values have the rows of their type.
+// Kept: a contract knows the rows of a table that is lent or stands in a lent struct, and not of one in a struct in that.
 fn rows(written: &Written)
     ensures { length (pasts written.now.past) ≡ 256 }
 {

@@ -1,6 +1,6 @@
 -- The snapshots added, which ascend, and the past values that live by them make the store after the message.
 use borrow.Author.Rules.{rules}
-use Rattle.gossips.proofs.Whole.{known_counted, applied_whole}
+use Rattle.gossips.proofs.Whole.{applied_whole}
 use Rattle.gossips.proofs.apply_gossip_anew.Goals as goal
 
 pub returns : goal.returns

@@ -1,7 +1,6 @@
 -- The stamps ahead against the known snapshots ahead say what the whole lists say.
 use mathlib.Core.Path.{◌≡◌, ap, ◌∙◌}
 use mathlib.Core.Bool.{true}
-use native.Mathlib.Omega.{arith}
 use lib.ListN.{length, take, drop}
 use Prim.Native.Nat.{◌-◌}
 use Rattle.model.specs.Lists.{rising_from}
@@ -24,4 +23,4 @@ returns-then-upto-y c =
     let a = c.args in
     let r : rising_from 0 (take (length a.known.now - c.count_known.result) (drop c.count_known.result a.known.now)) ≡ true =
     rw (rest a.known.now c.count_known.result) (rises_drop 0 a.known.now c.count_known.result c.requires.1) in
-    none_heard a.stamps.now a.upto c.loop-i.i c.told-x.result c.told-x.ensures (rest_none a.upto 0 _ c.loop-i.i c.loop-i-test.true r c.if-upto-y.true) c.loop-i.invariant
+    none_heard a.stamps.now a.upto c.loop-i.i c.told.result c.told.ensures (rest_none a.upto 0 _ c.loop-i.i c.loop-i-test.true r c.if-upto-y.true) c.loop-i.invariant

@@ -1,6 +1,5 @@
 -- Each return is the store's verdict by the tests before it.
-use Rattle.std.specs.Prelude.{Option}
-use Prim.Native.Nat.{ℕ, ◌-◌, min}
+use Prim.Native.Nat.{◌-◌, min}
 use mathlib.Core.Path.{◌≡◌, ap, sym, ◌∙◌}
 use native.Mathlib.Omega.{arith}
 use lib.ListN.{length, length-drop}

@@ -1,9 +1,6 @@
 -- `add_displaced` adds the past value if live: the room for it is asked of the caller.
-use mathlib.Core.Path.{ap}
-use Rattle.tables.specs.Contents.{stored}
-use Rattle.commits.specs.Rows.{live_in}
 use Rattle.commits.specs.Promises.{value_at}
-use Rattle.commits.proofs.Steps.{add_room, added_yes, added_no}
+use Rattle.commits.proofs.Steps.{add_room, added_yes}
 use Rattle.commits.proofs.applying.add_displaced.Goals as goal
 
 pub put_past-requires : goal.put_past-requires

@@ -15,15 +15,15 @@ turn c =
     let e = c.into_iter-object-iterator.ensures.into_iter_gives in
     let z = c.zip-object-items.ensures in
     let p = zip_turn c.args.objects.now c.args.values.now c.loop-object.yielded c.into_iter-object-iterator.result c.loop-object.object-iterator c.next.new.self c.next.result
-        (ap (λ z. z.a.rest.now) e ∙ ap (λ i. i.rest.now) z.first ∙ c.iter.ensures.rest) (ap (λ z. z.b.rest.now) e ∙ z.second.0)
-        c.loop-object.yielded_by (c.in-Some.object, c.in-Some.value) c.in-Some.is c.next.ensures.steps in
+    (ap (λ z. z.a.rest.now) e ∙ ap (λ i. i.rest.now) z.first ∙ c.iter.ensures.rest) (ap (λ z. z.b.rest.now) e ∙ z.second.0)
+    c.loop-object.yielded_by (c.in-Some.object, c.in-Some.value) c.in-Some.is c.next.ensures.steps in
     record { objects_left = p.0; values_left = p.1; object_is = p.2 0; value_is = p.3 0 }
 
 pub loop-object-init : goal.loop-object-init
 loop-object-init c = written_start c.args.t c.args.values.now c.requires.ready c.rows.ensures.0
 
 pub row_of-requires : goal.row_of-requires
-row_of-requires c = object_low c.loop-object.invariant c.requires.ready (turn (goal.at.row_of-requires c).In-Some)
+row_of-requires c = omega (arith, object_low c.loop-object.invariant c.requires.ready (turn (goal.at.row_of-requires c).In-Some))
 
 -- ---- an object that has an entry
 pub write_over-requires-clause-sound : goal.write_over-requires-clause-sound
@@ -70,6 +70,6 @@ returns-clause-applied c =
     let e = c.into_iter-object-iterator.ensures.into_iter_gives in
     let z = c.zip-object-items.ensures in
     let n = zip_end a.objects.now a.values.now c.loop-object.yielded c.into_iter-object-iterator.result c.loop-object.object-iterator c.next.new.self c.next.result
-        (ap (λ z. z.a.rest.now) e ∙ ap (λ i. i.rest.now) z.first ∙ c.iter.ensures.rest) (ap (λ z. z.b.rest.now) e ∙ z.second.0)
-        c.loop-object.yielded_by c.in-None.is c.next.ensures.steps in
+    (ap (λ z. z.a.rest.now) e ∙ ap (λ i. i.rest.now) z.first ∙ c.iter.ensures.rest) (ap (λ z. z.b.rest.now) e ∙ z.second.0)
+    c.loop-object.yielded_by c.in-None.is c.next.ensures.steps in
     written_end c.loop-object.invariant (omega (arith, n, c.requires.room.0))

@@ -1,8 +1,5 @@
 -- The writes made with those to come are all.
-use Prim.Native.Nat.{◌≤◌}
-use mathlib.Core.Path.{◌≡◌}
 use lib.ListN.{length}
-use Rattle.tables.specs.Rows.{pendings}
 use Rattle.commits.proofs.Commit.{Written}
 use Rattle.commits.proofs.applying.apply_commit_anew.Given as goal
 

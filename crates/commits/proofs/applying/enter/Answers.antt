@@ -1,9 +1,9 @@
 -- The entries written with those to come are all.
-use mathlib.Core.Path.{◌≡◌, ap, ◌∙◌}
+use mathlib.Core.Path.{ap, ◌∙◌}
 use native.Mathlib.Omega.{arith}
 use borrow.Author.Rules.{rules}
 use lib.ListN.{length, length-set}
-use Rattle.tables.specs.Rows.{pending_of, pendings}
+use Rattle.tables.specs.Rows.{pendings}
 use Rattle.tables.proofs.Rows.{pendings_length}
 use Rattle.commits.proofs.AllNew.{adding_next, adding_all}
 use Rattle.commits.proofs.applying.enter.Goals as goal

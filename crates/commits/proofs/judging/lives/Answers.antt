@@ -4,8 +4,5 @@ use Rattle.tables.proofs.Rows.{copies_length}
 use Rattle.commits.proofs.Displacing.{live_stored}
 use Rattle.commits.proofs.judging.lives.Goals as goal
 
-pub live-requires : goal.live-requires
-live-requires c = (c.requires.counted.snapshot_count, c.requires.counted.copy_count, c.requires.rising)
-
 pub returns : goal.returns
 returns c = live_stored c.args.store.now c.args.q (search rules) (copies_length _ _ (search rules)) c.requires.counted c.live.ensures

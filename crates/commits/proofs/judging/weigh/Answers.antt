@@ -1,9 +1,7 @@
 -- `weigh` counts the objects that have no entry, and those whose write displaces a live value.
-use Rattle.std.specs.Prelude.{Some, None}
-use mathlib.Core.Path.{◌≡◌, refl, sym, ◌∙◌}
+use mathlib.Core.Path.{◌≡◌, sym, ◌∙◌}
 use native.Mathlib.Omega.{arith}
 use lib.ListN.{get_or}
-use Rattle.tables.specs.Lookups.{find_pending}
 use Rattle.tables.specs.Contents.{stored}
 use Rattle.commits.specs.Rows.{live_in}
 use Rattle.commits.specs.Promises.{entries, value_at}
@@ -35,30 +33,30 @@ loop-object-preserved c =
     let i = v.invariant in
     let l = c.loop-object-test.true in
     elim c.match-row_of.branch [
-      in-Some+then-is_some w ↦
-      let f = sym (w.in-Some.ensures (entries s) (few s r.counted) r.indexed) in
-      let b : w.is_some.result ≡ live_in (stored s) (value_at s w.in-Some.row o c.args.t) = w.is_some.ensures ∙ displaced_is (live_in (stored s)) (value_at s w.in-Some.row o c.args.t) w.displaced.result w.displaced.ensures in
-      record {
-        few_entries = omega arith;
-        few_rows = omega arith;
-        new = counts_by _ os k v.entries i.new 0 l (old_at s p r.counted o w.in-Some.row f) (omega arith);
-        old = counts_by _ os k v.rows i.old 0 l (displaces_at s p r.counted o w.in-Some.row f c.args.t b) (rw w.if-is_some.true w.rows-is);
-      }
+      | in-Some+then-is_some w ↦
+          let f = sym (w.in-Some.ensures (entries s) (few s r.counted) r.indexed) in
+          let b : w.is_some.result ≡ live_in (stored s) (value_at s w.in-Some.row o c.args.t) = w.is_some.ensures ∙ displaced_is (live_in (stored s)) (value_at s w.in-Some.row o c.args.t) w.displaced.result w.displaced.ensures in
+          record {
+            few_entries = omega arith;
+            few_rows = omega arith;
+            new = counts_by _ os k v.entries i.new 0 l (old_at s p r.counted o w.in-Some.row f) (omega arith);
+            old = counts_by _ os k v.rows i.old 0 l (displaces_at s p r.counted o w.in-Some.row f c.args.t b) (rw w.if-is_some.true w.rows-is);
+          }
       | in-Some+else-is_some w ↦
-      let f = sym (w.in-Some.ensures (entries s) (few s r.counted) r.indexed) in
-      let b : w.is_some.result ≡ live_in (stored s) (value_at s w.in-Some.row o c.args.t) = w.is_some.ensures ∙ displaced_is (live_in (stored s)) (value_at s w.in-Some.row o c.args.t) w.displaced.result w.displaced.ensures in
-      record {
-        few_entries = omega arith;
-        few_rows = omega arith;
-        new = counts_by _ os k v.entries i.new 0 l (old_at s p r.counted o w.in-Some.row f) (omega arith);
-        old = counts_by _ os k v.rows i.old 0 l (displaces_at s p r.counted o w.in-Some.row f c.args.t b) (rw w.if-is_some.false (omega arith));
-      }
+          let f = sym (w.in-Some.ensures (entries s) (few s r.counted) r.indexed) in
+          let b : w.is_some.result ≡ live_in (stored s) (value_at s w.in-Some.row o c.args.t) = w.is_some.ensures ∙ displaced_is (live_in (stored s)) (value_at s w.in-Some.row o c.args.t) w.displaced.result w.displaced.ensures in
+          record {
+            few_entries = omega arith;
+            few_rows = omega arith;
+            new = counts_by _ os k v.entries i.new 0 l (old_at s p r.counted o w.in-Some.row f) (omega arith);
+            old = counts_by _ os k v.rows i.old 0 l (displaces_at s p r.counted o w.in-Some.row f c.args.t b) (rw w.if-is_some.false (omega arith));
+          }
       | in-None w ↦
-      let f = sym (w.in-None.ensures (entries s) (few s r.counted) r.indexed) in
-      record {
-        few_entries = omega arith;
-        few_rows = omega arith;
-        new = counts_by _ os k v.entries i.new 0 l (new_none s p r.counted o f) w.entries-is;
-        old = counts_by _ os k v.rows i.old 0 l (displaces_none s p r.counted o f c.args.t) (omega arith);
-      }
+          let f = sym (w.in-None.ensures (entries s) (few s r.counted) r.indexed) in
+          record {
+            few_entries = omega arith;
+            few_rows = omega arith;
+            new = counts_by _ os k v.entries i.new 0 l (new_none s p r.counted o f) w.entries-is;
+            old = counts_by _ os k v.rows i.old 0 l (displaces_none s p r.counted o f c.args.t) (omega arith);
+          }
     ]

@@ -10,5 +10,5 @@ invariant-loop-object l = record {
   few_entries : l.entries ≤ l.object-index;
   few_rows : l.rows ≤ l.object-index;
   new : Counts (new_in (stored l.store).pending) l.objects l.object-index l.entries;
-  old : Counts (displaces_in (live_in (stored l.store)) l.t (stored l.store).pending) l.objects l.object-index l.rows
+  old : Counts (displaces_in (live_in (stored l.store)) l.t (stored l.store).pending) l.objects l.object-index l.rows;
 }
