@@ -56,6 +56,17 @@ decimal_short n h =
     let s = digits_short 19 n (n / 10) (omega arith) in
     simp length-append (omega arith)
 
+pub tenth_length : (n : ℕ) → 10 ≤ n → length (decimal n) ≡ length (decimal (n / 10)) + 1
+tenth_length n h = ap length (decimal_more n h) ∙ simp length-append (omega arith)
+
+-- a number's digits behind a text, as long as those of any word
+pub number_fits : (xs : List ℕ) {ys : List ℕ} (n : ℕ) → n < 2 ^ 64 → ys ≡ xs ++ decimal n → length ys ≤ length xs + 20
+number_fits xs n l e =
+    let s = decimal_short n l in
+    let f = ap length e in
+    let g = simp length-append at f in
+    omega arith
+
 -- ---- every byte is a digit
 both_next : (b c d : Bool) → both b c ≡ true → (c ≡ true → d ≡ true) → both b d ≡ true
 both_next true c d h g = g h

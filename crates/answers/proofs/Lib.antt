@@ -1,5 +1,4 @@
 pub mod Decimals
-pub mod Signs
-pub mod Puts
+pub mod Lines
 pub mod Hexes
 pub mod Examples

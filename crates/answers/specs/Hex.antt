@@ -29,5 +29,5 @@ hex_bytes (c ∷ d ∷ ds) = (hex_value c * 16 + hex_value d) ∷ hex_bytes ds
 abbrev pub bytes_text : List ℕ → List ℕ
 bytes_text bs = pick (both (not (empty_b bs)) (leb (length bs) 512)) (text " " ++ hex_of bs) []
 
-unfoldable pub bytes_line : Answer → List ℕ → List ℕ
+abbrev pub bytes_line : Answer → List ℕ → List ℕ
 bytes_line a bs = answer_text a ++ bytes_text bs ++ text "\n"

@@ -19,25 +19,25 @@ writes_text (o ∷ os) (v ∷ vs) = write_text o v ++ writes_text os vs
 abbrev pub changes_text : List ℕ → List ℕ → List ℕ
 changes_text os vs = pick (both (leb (length os) 16) (eqb (length os) (length vs))) (writes_text os vs) []
 
-unfoldable pub commit_line : ℕ → List ℕ → List ℕ → ℕ → ℕ → List ℕ
+abbrev pub commit_line : ℕ → List ℕ → List ℕ → ℕ → ℕ → List ℕ
 commit_line stamp os vs offset size = text "commit " ++ decimal stamp ++ changes_text os vs ++ comment_text offset size
 
 -- ---- a gossip: its stamps are shown where there are at most sixteen
 abbrev pub few_text : List ℕ → List ℕ
 few_text ns = pick (leb (length ns) 16) (spaced ns) []
 
-unfoldable pub gossip_line : ℕ → ℕ → List ℕ → ℕ → ℕ → List ℕ
+abbrev pub gossip_line : ℕ → ℕ → List ℕ → ℕ → ℕ → List ℕ
 gossip_line prev curr stamps offset size = text "gossip" ++ spaced (prev ∷ curr ∷ []) ++ few_text stamps ++ comment_text offset size
 
-unfoldable pub flush_line : ℕ → ℕ → ℕ → List ℕ
+abbrev pub flush_line : ℕ → ℕ → ℕ → List ℕ
 flush_line page offset size = text "flush " ++ decimal page ++ comment_text offset size
 
 -- ---- how the walk ends: behind the last record, before bytes that are no whole record, or at a record that is refused
-unfoldable pub end_line : ℕ → List ℕ
+abbrev pub end_line : ℕ → List ℕ
 end_line place = text "# " ++ decimal place ++ text " end\n"
 
-unfoldable pub torn_line : ℕ → ℕ → List ℕ
+abbrev pub torn_line : ℕ → ℕ → List ℕ
 torn_line place bytes = text "# " ++ decimal place ++ text " torn, " ++ decimal bytes ++ text " bytes\n"
 
-unfoldable pub refusal_line : Answer → List ℕ
+abbrev pub refusal_line : Answer → List ℕ
 refusal_line a = text "# " ++ answer_text a ++ text "\n"

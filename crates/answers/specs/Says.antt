@@ -78,31 +78,31 @@ name_of (Contradiction n) = text "Contradiction"
 abbrev pub answer_text : Answer → List ℕ
 answer_text a = decimal (code_of a) ++ (text " " ++ decimal (number_of a)) ++ text " " ++ name_of a
 
-unfoldable pub answer_line : Answer → List ℕ
+abbrev pub answer_line : Answer → List ℕ
 answer_line a = answer_text a ++ text "\n"
 
-unfoldable pub opened_line : Answer → List ℕ
+abbrev pub opened_line : Answer → List ℕ
 opened_line a = text ": " ++ answer_text a ++ text "\n"
 
 -- a page's words stand behind the answer where the page was read and there are sixteen of them
 abbrev pub page_text : Answer → List ℕ → List ℕ
 page_text a ws = pick (both (is_done a) (eqb (length ws) 16)) (spaced ws) []
 
-unfoldable pub page_line : Answer → List ℕ → List ℕ
+abbrev pub page_line : Answer → List ℕ → List ℕ
 page_line a ws = answer_text a ++ page_text a ws ++ text "\n"
 
 -- what is known stands behind the answer where it is Done and there are at most 64 stamps: the horizon, the last stamp, the stamps
 abbrev pub known_text : Answer → ℕ → ℕ → List ℕ → List ℕ
 known_text a horizon last stamps = pick (both (is_done a) (leb (length stamps) 64)) (spaced (horizon ∷ last ∷ stamps)) []
 
-unfoldable pub known_line : Answer → ℕ → ℕ → List ℕ → List ℕ
+abbrev pub known_line : Answer → ℕ → ℕ → List ℕ → List ℕ
 known_line a horizon last stamps = answer_text a ++ known_text a horizon last stamps ++ text "\n"
 
 -- the figures stand behind the answer where it is Done: pending, past, snapshots, copies, and the lag with its sign
 abbrev pub figures_text : Figures → List ℕ
 figures_text f = spaced (f.pending ∷ f.past ∷ f.snapshots ∷ f.copies ∷ []) ++ text " " ++ signed f.lag
 
-unfoldable pub standing_line : Answer → Figures → List ℕ
+abbrev pub standing_line : Answer → Figures → List ℕ
 standing_line a f = answer_text a ++ pick (is_done a) (figures_text f) [] ++ text "\n"
 
 -- ---- a line that is no call: what is wrong, by its number, and where
@@ -129,7 +129,7 @@ position_text line column = text " at line " ++ decimal line ++ text " column " 
 abbrev pub hint_text : ℕ → List ℕ
 hint_text fault = pick (eqb fault 0) (text "; help lists them") []
 
-unfoldable pub fault_line : ℕ → ℕ → ℕ → List ℕ
+abbrev pub fault_line : ℕ → ℕ → ℕ → List ℕ
 fault_line fault line column = text "? " ++ fault_text fault ++ position_text line column ++ hint_text fault ++ text "\n"
 
 -- ---- what a call of the library leaves: the line stands at the front of the lent bytes, and r is how many bytes it has

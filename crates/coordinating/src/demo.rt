@@ -1,16 +1,5 @@
 // A coordinator's calls, as lines of input.
-ghost use Rattle.io.specs.Counts.{IsPrefixLen};
-
-use files::paths;
-
-// Puts the lines into the buffer; how many bytes they are.
-pub fn lay(buffer: &mut [u8]) -> usize
-    ensures { IsPrefixLen result buffer.new }
-{
-    paths::append(
-        buffer,
-        0,
-        b"# 1. node 5 asks for a snapshot at tick 1: it is granted, with the stamp 256 x 1 + 5
+pub const LINES: &[u8] = b"# 1. node 5 asks for a snapshot at tick 1: it is granted, with the stamp 256 x 1 + 5
 grant 1 5
 # 2. the same again is late: 261 is the largest stamp granted
 grant 1 5
@@ -28,6 +17,4 @@ granted
 message 600 599
 grant 3 256
 serve 0011
-",
-    )
-}
+";

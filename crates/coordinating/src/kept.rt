@@ -1,137 +1,76 @@
 // A coordinator from its start to the end of the input.
-ghost use Rattle.std.specs.Prelude.{length};
-ghost use Rattle.terminal.specs.Buffers.{Within};
-
-use crate::desk::Desk;
-use crate::{demo, desk};
+use crate::demo;
+use crate::desk::Coordinator;
 use coordinator::State;
-use files::file::Whole;
-use files::{file, fit, lock, whole};
-use model::Answer;
-use terminal::input::{Input, Source};
-use terminal::{input, say};
+use files::{fit, lock, paths, whole};
+use terminal::input::Source;
+use terminal::{say, serve};
 
-// No coordinator: the program ends.
-fn closed() -> Desk {
-    Desk {
-        length: 0,
-        going: false,
-        served: false,
-    }
-}
-
-// The coordinator of a file that was read, or one in memory. A file that is refused stays as it is.
-fn begun(rt: &HostRuntime, path: &[u8], read: Whole, answer: Answer) -> Desk {
-    let Whole::Bytes(length) = read else {
-        return closed();
-    };
-    let desk = Desk {
-        length,
-        going: true,
-        served: true,
-    };
-    if path.len() == 0 {
-        return desk;
-    }
-    if answer.code() != 0 {
-        say::opening(rt, b"refused ", path, answer);
-        return closed();
-    }
-    if !say::opening(rt, b"opened ", path, answer) {
-        return closed();
-    }
-    desk
-}
-
-// Serves each line of the input. False where something failed.
-fn run(
-    rt: &HostRuntime,
-    state: &mut State,
-    path: &[u8],
-    buffer: &mut [u8],
-    begun: Desk,
-    first: Input,
-) -> bool
-    requires { Within first (length buffer.old) }
-{
-    let mut desk = begun;
-    let mut input = first;
-    let mut turns = input::TURNS;
-    while 0 < turns {
-        turns -= 1;
-        if !desk.going {
-            return desk.served;
-        }
-        if !input.going {
-            return !input.failed;
-        }
-        let number = input.line;
-        let taken = input::take(rt, buffer, input);
-        input = taken.input;
-        let from = taken.from;
-        let to = taken.to;
-        desk = desk::served(rt, state, path, desk, &buffer[from..to], number);
-    }
-    true
-}
-
-// The bytes of the file; none in memory.
-fn read(rt: &HostRuntime, path: &[u8], out: &mut [u8]) -> Whole {
-    if path.len() == 0 {
-        return Whole::Bytes(0);
+// The bytes of the file; none in memory. Where they can't be read there was a word on standard error.
+fn read(rt: &HostRuntime, path: &[u8], out: &mut [u8]) -> Option<usize> {
+    if path.is_empty() {
+        return Some(0);
     }
     whole::read(rt, path, out)
 }
 
-// The input is standard input, or the demonstration's lines. A state has fewer bytes than there is room for here, so a
-// file that is longer shows.
-fn serve(rt: &HostRuntime, path: &[u8], source: Source) -> bool {
-    let mut state = [0u64; 66];
+// The coordinator of a file, or one in memory. A file that is refused stays as it is. A state has fewer bytes than there is room for
+// here, so a file that is longer shows.
+fn begun<'a>(rt: &HostRuntime, path: &'a [u8]) -> Option<Coordinator<'a>> {
+    let mut state = State {
+        count: 0,
+        sent: 0,
+        stamps: [0; 64],
+    };
     let mut bytes = io::buffer();
-    let read = read(rt, path, &mut bytes);
-    let n = file::count(read, &bytes);
-    let answer = coordinator::kept::restart(&mut state, &bytes[..n]);
-    let desk = begun(rt, path, read, answer);
-    let mut buffer = input::buffer();
-    let input = laid(&mut buffer, source);
-    run(rt, &mut state, path, &mut buffer, desk, input)
+    let length = read(rt, path, &mut bytes)?;
+    let n = paths::within(length, &bytes);
+    let answer = state.restart(&bytes[..n]);
+    let coordinator = Coordinator {
+        state,
+        path,
+        length,
+    };
+    if path.is_empty() {
+        return Some(coordinator);
+    }
+    if !answer.is_done() {
+        say::opening(rt, b"refused ", path, answer);
+        return None;
+    }
+    if !say::opening(rt, b"opened ", path, answer) {
+        return None;
+    }
+    Some(coordinator)
 }
 
-// The input at its start. The demonstration's lines are in the buffer already.
-fn laid(buffer: &mut [u8], source: Source) -> Input
-    ensures { Within result (length buffer.new) }
-{
-    if let Source::Laid = source {
-        let end = demo::lay(buffer);
-        return input::at_start(buffer, source, end);
+// The input is standard input, or the demonstration's lines.
+fn is_served(rt: &HostRuntime, path: &[u8], source: Source, laid: &[u8]) -> bool {
+    match begun(rt, path) {
+        Some(mut coordinator) => serve::is_served(rt, &mut coordinator, source, laid),
+        None => false,
     }
-    input::at_start(buffer, source, 0)
 }
 
 pub fn in_memory(rt: &HostRuntime) -> bool {
-    serve(rt, b"", Source::Typed)
+    is_served(rt, b"", Source::Typed, b"")
 }
 
 pub fn shown(rt: &HostRuntime) -> bool {
-    serve(rt, b"", Source::Laid)
+    is_served(rt, b"", Source::Laid, demo::LINES)
 }
 
 // Nothing is made before the name is known to be fit, and nothing read before the lock is ours. False where something failed, after a
 // word on standard error.
 pub fn in_file(rt: &HostRuntime, path: &[u8]) -> bool {
-    if !say::are_open(rt) {
+    let is_ours = say::are_open(rt)
+        && fit::is_fit(rt, path, b"a coordinator's file")
+        && whole::is_single(rt, path)
+        && lock::is_taken(rt, path, b"the file");
+    if !is_ours {
         return false;
     }
-    if !fit::is_fit(rt, path, b"a coordinator's file") {
-        return false;
-    }
-    if !whole::is_single(rt, path) {
-        return false;
-    }
-    if !lock::is_taken(rt, path, b"the file") {
-        return false;
-    }
-    let served = serve(rt, path, Source::Typed);
+    let served = is_served(rt, path, Source::Typed, b"");
     lock::release(rt, path);
     served
 }

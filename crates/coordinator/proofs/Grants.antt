@@ -1,12 +1,12 @@
--- The words with one stamp more, the highest stamp, and what each test of a grant settles.
+-- The state with one stamp more, the highest stamp, and what each test of a grant settles.
 use Prim.Native.Nat.{ℕ, suc, ◌+◌, ◌-◌, max, ◌≤◌, ◌<◌}
 use mathlib.Core.Path.{◌≡◌, refl, ap, sym, ◌∙◌}
 use mathlib.Core.Bool.{true, false}
 use mathlib.Core.List.{List, [], ◌∷◌, ◌++◌}
 use native.Mathlib.Numerals.{add-one}
 use native.Mathlib.Omega.{arith}
-use lib.ListN.{length, drop, get_or, set, length-set, length-drop, drop_of_length-le}
-use lib.Seq.{drop-set-lt, drop-set-add, take-suc-set, get_or-set_same, get_or-set_other}
+use lib.ListN.{length, get_or, set, length-set}
+use lib.Seq.{take-suc-set}
 use borrow.Author.Tests.{lt-ltb, le-ltb, le-leb, lt-leb}
 use Rattle.model.specs.declared.Answer.TheVariants.{Done, Damaged, Shape, Late, SnapshotsFull}
 use Rattle.model.specs.Limits.{last_tick}
@@ -14,36 +14,24 @@ use Rattle.model.specs.Lists.{rising_from}
 use Rattle.model.specs.Coordinator.{Coordinator, highest, top, coordinator_damaged, stamp_of, grant_answer, grant}
 use Rattle.tables.specs.Rows.{up_to}
 use Rattle.tables.proofs.Counts.{up_to_take}
+use Rattle.coordinator.specs.declared.State.{State}
 use Rattle.coordinator.specs.States.{held, Granted}
 use Rattle.coordinator.proofs.States.{granted_is, none_both, highest_last}
 
 -- ---- one stamp more
-pub added : (w : List ℕ) (s : ℕ) → length w ≡ 66 → get_or w 0 0 < 64
-    → held (set (set w (2 + get_or w 0 0) s) 0 (get_or w 0 0 + 1)) ≡ record { granted = (held w).granted ++ (s ∷ []); sent = (held w).sent }
-added w s l h =
-    let n = get_or w 0 0 in
-    let v = set w (2 + n) s in
-    let few : n < length (drop 2 w) = simp length-drop (omega arith) in
-    let some : 0 < length v = simp length-set (omega arith) in
-    let more : suc n ≤ length (set (drop 2 w) n s) = simp length-set (omega arith) in
-    let count : get_or (set v 0 (n + 1)) 0 0 ≡ suc n = get_or-set_same v 0 (n + 1) 0 some ∙ add-one n in
-    let stamps : drop 2 (set v 0 (n + 1)) ≡ set (drop 2 w) n s = drop-set-lt 2 v 0 (n + 1) (omega arith) ∙ drop-set-add 2 w n s in
-    let sent : get_or (set v 0 (n + 1)) 1 0 ≡ get_or w 1 0 = get_or-set_other v 0 1 (n + 1) 0 (λ e. omega arith) ∙ get_or-set_other w (2 + n) 1 s 0 (λ e. omega arith) in
-    let all : up_to 0 (suc n) (set (drop 2 w) n s) ≡ (held w).granted ++ (s ∷ []) =
-    up_to_take 0 (suc n) (set (drop 2 w) n s) more ∙ take-suc-set (drop 2 w) n s few ∙ ap (λ g. g ++ (s ∷ [])) (sym (granted_is w l (omega arith))) in
-    rw (count, stamps, sent, all)
+pub added : (s : State) (t : ℕ) → length s.stamps ≡ 64 → s.count < 64
+    → held (record { count = s.count + 1; sent = s.sent; stamps = set s.stamps s.count t }) ≡ record { granted = (held s).granted ++ (t ∷ []); sent = s.sent }
+added s t l h =
+    let n = s.count in
+    let few : n < length s.stamps = omega arith in
+    let more : suc n ≤ length (set s.stamps n t) = simp length-set (omega arith) in
+    let all : up_to 0 (suc n) (set s.stamps n t) ≡ (held s).granted ++ (t ∷ []) =
+    up_to_take 0 (suc n) (set s.stamps n t) more ∙ take-suc-set s.stamps n t few ∙ ap (λ g. g ++ (t ∷ [])) (sym (granted_is s l (omega arith))) in
+    rw (add-one, all)
 
 -- ---- the highest of the stamps and what was sent
-module _ (g : List ℕ) (sent : ℕ) where
-  pub top_none : length g ≡ 0 → sent ≡ max (highest g) sent
-  top_none e = let few : length g ≤ 0 = omega arith in let none : g ≡ [] = drop_of_length-le g few in rw none (omega arith)
-
-  module _ (r : rising_from 0 g ≡ true) (h : 0 < length g) where
-    pub top_sent : get_or g (length g - 1) 0 < sent → sent ≡ max (highest g) sent
-    top_sent l = omega (arith, (highest_last 0 g r h).1)
-
-    pub top_last : sent ≤ get_or g (length g - 1) 0 → get_or g (length g - 1) 0 ≡ max (highest g) sent
-    top_last l = omega (arith, (highest_last 0 g r h).1)
+pub top_is : (g : List ℕ) (sent : ℕ) → rising_from 0 g ≡ true → 0 < length g → max sent (get_or g (length g - 1) 0) ≡ max (highest g) sent
+top_is g sent r h = omega (arith, (highest_last 0 g r h).1)
 
 -- ---- a grant's answers in their order
 module _ (k : Coordinator) (tick node : ℕ) where

@@ -1,7 +1,7 @@
 -- Rising stamps parted at a bound, and those behind it at another: the stamps of a message are a part of the list, which tells its curr.
-use Prim.Native.Nat.{ℕ, zero, suc, ◌+◌, ◌-◌, ◌≤◌, ◌<◌}
+use Prim.Native.Nat.{ℕ, zero, suc, ◌-◌, ◌≤◌, ◌<◌}
 use mathlib.Core.Path.{◌≡◌, refl, ap, sym, ◌∙◌}
-use mathlib.Core.Bool.{true}
+use mathlib.Core.Bool.{true, false}
 use mathlib.Core.List.{List, [], ◌∷◌}
 use native.Mathlib.Omega.{arith}
 use lib.ListN.{length, take, drop, get_or, length-drop}
@@ -12,7 +12,22 @@ use Rattle.model.specs.Lists.{pick, rising_from}
 use Rattle.model.specs.Coordinator.{stamps_in}
 use Rattle.tables.proofs.Cases.{by_test}
 use Rattle.tables.proofs.Rising.{first_beyond, rest_rises}
-use Rattle.coordinator.specs.Messages.{Parted, Speaks}
+use Rattle.coordinator.specs.Messages.{Speaks}
+use Rattle.std.specs.List.Sorted.{IsPartitionPoint}
+
+-- the index n parts a list at a bound: the one before it is at most the bound, the one at it is beyond
+pub record Parted (l : List ℕ) (bound n : ℕ) : Type 0 where
+  pub inside : n ≤ length l
+  pub low : (i : ℕ) → suc i ≡ n → get_or l i 0 ≤ bound
+  pub high : n < length l → bound < get_or l n 0
+
+-- as the library finds it
+pub parted_point : {l : List ℕ} {bound n : ℕ} → n ≤ length l → IsPartitionPoint (λ s. leb s bound ≡ true) (λ s. leb s bound ≡ false) l n → Parted l bound n
+parted_point {l} {bound} {n} h point = record {
+  inside = h;
+  low = λ i e. leb-true _ _ (point.0 i 0 (omega arith) (omega arith));
+  high = λ k. leb-false _ _ (point.1 n 0 (omega arith) k);
+}
 
 -- ---- how many at the front are at most a bound
 abbrev leading : ℕ → List ℕ → ℕ
@@ -45,7 +60,7 @@ rising_lower : (lo x : ℕ) (xs : List ℕ) → lo < x → rising_from x xs ≡ 
 rising_lower lo x [] h r = refl
 rising_lower lo x (y ∷ ys) h r = rw (lt-ltb lo y (omega (arith, first_beyond x y ys r))) (rest_rises x y ys r)
 
-rising_drop : (lo a : ℕ) (l : List ℕ) → rising_from lo l ≡ true → rising_from lo (drop a l) ≡ true
+pub rising_drop : (lo a : ℕ) (l : List ℕ) → rising_from lo l ≡ true → rising_from lo (drop a l) ≡ true
 rising_drop lo zero l r = r
 rising_drop lo (suc a) [] r = refl
 rising_drop lo (suc a) (x ∷ xs) r = rising_drop lo a xs (rising_lower lo x xs (first_beyond lo x xs r) (rest_rises lo x xs r))
@@ -70,6 +85,19 @@ between lo p c (x ∷ xs) r =
 pub part_all : (a : ℕ) (l : List ℕ) → take (length l - a) (drop a l) ≡ drop a l
 part_all a l = take_all (length l - a) (drop a l) (simp length-drop (omega arith))
 
+-- ---- each of a rising list is beyond what it rises from, and at least any before it
+beyond : (lo : ℕ) (l : List ℕ) → rising_from lo l ≡ true → (j d : ℕ) → j < length l → lo < get_or l j d
+beyond lo [] r j d h = absurd (omega arith)
+beyond lo (x ∷ l) r zero d h = first_beyond lo x l r
+beyond lo (x ∷ l) r (suc j) d h = let ih = beyond x l (rest_rises lo x l r) j d (omega arith) in omega (arith, first_beyond lo x l r)
+
+pub never_falls : (lo : ℕ) (l : List ℕ) → rising_from lo l ≡ true → (i j d : ℕ) → i ≤ j → j < length l → get_or l i d ≤ get_or l j d
+never_falls lo [] r i j d o h = absurd (omega arith)
+never_falls lo (x ∷ l) r zero zero d o h = omega arith
+never_falls lo (x ∷ l) r (suc i) zero d o h = absurd (omega arith)
+never_falls lo (x ∷ l) r zero (suc j) d o h = let b = beyond x l (rest_rises lo x l r) j d (omega arith) in omega arith
+never_falls lo (x ∷ l) r (suc i) (suc j) d o h = never_falls x l (rest_rises lo x l r) i j d (omega arith) (omega arith)
+
 module _ (l after : List ℕ) (p c a n : ℕ) (r : rising_from 0 l ≡ true) (start : Parted l p a) (e : after ≡ drop a l) (count : Parted after c n) where
   stamps_part : stamps_in p c l ≡ take n after
   stamps_part =
@@ -81,32 +109,22 @@ module _ (l after : List ℕ) (p c a n : ℕ) (r : rising_from 0 l ≡ true) (st
   stamps_count : length (stamps_in p c l) ≡ n
   stamps_count = ap length stamps_part ∙ length-take-le n after count.inside
 
-  -- the first m of those behind the index a
-  part : (m : ℕ) → take (a + m - a) (drop a l) ≡ take m after
-  part m = let f : a + m - a ≡ m = omega arith in rw (f, e)
-
-  inside : (m : ℕ) → m ≤ n → a + m ≤ length l
-  inside m k = omega (arith, start.inside, count.inside, ap length e, length-drop a l)
-
-  pub speaks_all : n ≤ 16 → Speaks l p c a (a + n) c
+  pub speaks_all : n ≤ 16 → Speaks l p c (take n after) c
   speaks_all k =
       let m = stamps_count in
       record {
-        rising = omega arith;
-        inside = inside n (omega arith);
-        few = omega arith;
-        stamps = part n ∙ sym stamps_part ∙ sym (take_all 16 (stamps_in p c l) (omega arith));
+        few = omega (arith, length-take-le n after count.inside);
+        chosen = sym stamps_part ∙ sym (take_all 16 (stamps_in p c l) (omega arith));
         curr_is = rw (le-ltb 16 (length (stamps_in p c l)) (omega arith));
       }
 
-  pub speaks_sixteen : 16 < n → Speaks l p c a (a + 16) (get_or after 15 0)
+  pub speaks_sixteen : 16 < n → Speaks l p c (take 16 after) (get_or after 15 0)
   speaks_sixteen k =
       let m = stamps_count in
+      let i = count.inside in
       record {
-        rising = omega arith;
-        inside = inside 16 (omega arith);
-        few = omega arith;
-        stamps = part 16 ∙ sym (take-take 16 n after (omega arith)) ∙ ap (take 16) (sym stamps_part);
+        few = omega (arith, length-take-le 16 after (omega arith));
+        chosen = sym (take-take 16 n after (omega arith)) ∙ ap (take 16) (sym stamps_part);
         curr_is =
             rw (lt-ltb 16 (length (stamps_in p c l)) (omega arith))
             (sym (get_or-take n after 15 0 (omega arith)) ∙ ap (λ (ss : List ℕ). get_or ss 15 0) (sym stamps_part));

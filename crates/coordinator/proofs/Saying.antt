@@ -1,45 +1,40 @@
 -- What was sent, and what each test of a message or a request settles.
-use Prim.Native.Nat.{ℕ, max, ◌-◌, ◌≤◌, ◌<◌}
+use Prim.Native.Nat.{ℕ, max, ◌≤◌, ◌<◌}
 use mathlib.Core.Path.{◌≡◌, refl, ap, ◌∙◌}
 use mathlib.Core.Bool.{true, false}
 use mathlib.Core.List.{List}
 use native.Mathlib.Omega.{arith}
-use lib.ListN.{length, take, drop, set, length-set}
-use lib.Seq.{drop-set-lt, get_or-set_same, get_or-set_other}
+use lib.ListN.{length, take}
 use borrow.Author.Tests.{le-leb, lt-leb}
 use Rattle.model.specs.declared.Answer.{Answer}
 use Rattle.model.specs.declared.Answer.TheVariants.{Done, Damaged, Shape, Malformed}
 use Rattle.model.specs.Bytes.{write_at}
 use Rattle.model.specs.Changes.{gossip}
 use Rattle.model.specs.Records.{encode}
-use Rattle.model.specs.Coordinator.{Coordinator, fresh_coordinator, coordinator_damaged, stamps_in, curr_of, message_for, message_answer, message}
+use Rattle.model.specs.Coordinator.{Coordinator, coordinator_damaged, stamps_in, curr_of, curr_for, message_for, message_answer, message}
 use Rattle.model.specs.Exchange.{Requested, no_request, request, served}
 use Rattle.journal.specs.Places.{Moved}
 use Rattle.std.specs.Prelude.{Some, None}
 use Rattle.requests.specs.Asking.{asked}
 use Rattle.requests.specs.declared.Request.{Request}
-use Rattle.coordinator.specs.States.{held, Wrote}
-use Rattle.coordinator.specs.Messages.{Speaks, Told}
+use Rattle.coordinator.specs.States.{Wrote}
+use Rattle.coordinator.specs.Messages.{Speaks}
 use Rattle.coordinator.proofs.States.{none_both}
 
--- ---- another curr sent
-pub sent_is : (w : List ℕ) (curr : ℕ) → length w ≡ 66 → held (set w 1 curr) ≡ record { granted = (held w).granted; sent = curr }
-sent_is w curr l =
-    rw (get_or-set_other w 1 0 curr 0 (λ e. omega arith), drop-set-lt 2 w 1 curr (omega arith), get_or-set_same w 1 curr 0 (omega arith))
-
--- no stamp and nothing sent
-pub cleared : (w : List ℕ) → length w ≡ 66 → held (set (set w 0 0) 1 0) ≡ fresh_coordinator
-unfolding fresh_coordinator
-cleared w l = sent_is (set w 0 0) 0 (length-set w 0 0 ∙ l) ∙ rw (get_or-set_same w 0 0 0 (omega arith))
+-- the message stands at the front of the buffer j, which is j' then
+pub record Told (k : Coordinator) (prev clock : ℕ) (j : List ℕ) (size curr : ℕ) (j' : List ℕ) : Type 0 where
+  pub written : j' ≡ write_at 0 (encode (message_for k prev clock)) j
+  pub size_is : size ≡ length (encode (message_for k prev clock))
+  pub curr_is : curr ≡ curr_for k prev clock
 
 -- ---- the message's stamps and curr, written as a gossip record
-pub told : (k : Coordinator) (prev clock : ℕ) {j j' : List ℕ} {start end curr size : ℕ} (g : List ℕ) → g ≡ k.granted → Speaks g prev clock start end curr
-    → Moved (encode (gossip prev curr (take (end - start) (drop start g)))) j 0 j' size → Told k prev clock j size curr j'
+pub told : (k : Coordinator) (prev clock : ℕ) {j j' stamps g : List ℕ} {curr size : ℕ} → g ≡ k.granted → Speaks g prev clock stamps curr
+    → Moved (encode (gossip prev curr stamps)) j 0 j' size → Told k prev clock j size curr j'
 unfolding message_for
-told k prev clock {j} {j'} {start} {end} {curr} {size} g e c m =
-    let stamps = c.stamps ∙ ap (λ (l : List ℕ). take 16 (stamps_in prev clock l)) e in
+told k prev clock {j} {j'} {stamps} {g} {curr} {size} e c m =
+    let chosen = c.chosen ∙ ap (λ (l : List ℕ). take 16 (stamps_in prev clock l)) e in
     let curr_is = c.curr_is ∙ ap (λ (l : List ℕ). curr_of (stamps_in prev clock l) clock) e in
-    let same : gossip prev curr (take (end - start) (drop start g)) ≡ message_for k prev clock = λ i. gossip prev (curr_is i) (stamps i) in
+    let same : gossip prev curr stamps ≡ message_for k prev clock = λ i. gossip prev (curr_is i) (chosen i) in
     record {
       written = m.journal ∙ ap (λ x. write_at 0 (encode x) j) same;
       size_is = omega (arith, m.place) ∙ ap (λ x. length (encode x)) same;

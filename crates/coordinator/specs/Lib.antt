@@ -1,2 +1,3 @@
 pub mod States
 pub mod Messages
+pub mod Bytes

@@ -1,21 +1,21 @@
--- What the coordinator's words hold, as a coordinator of the model, and what its calls promise.
-use Rattle.std.specs.Prelude.{ℕ, ◌≤◌, ◌≡◌, true, List, length, drop, get_or}
+-- What the coordinator's state holds, as a coordinator of the model, and what its calls promise.
+use Rattle.std.specs.Prelude.{ℕ, ◌≤◌, ◌≡◌, true, List}
 use Rattle.model.specs.declared.Answer.{Answer}
 use Rattle.model.specs.Lists.{rising_from}
 use Rattle.model.specs.Reads.{Shown}
 use Rattle.model.specs.Coordinator.{Coordinator, Granting, Messaged}
 use Rattle.model.specs.CoordinatorBytes.{RestartedCoordinator}
 use Rattle.tables.specs.Rows.{up_to}
+use Rattle.coordinator.specs.declared.State.{State}
 
--- how many stamps are granted, the largest curr sent, then the stamps. A count beyond the words shows stamps that aren't there
-abbrev pub held : List ℕ → Coordinator
-held words = record { granted = up_to 0 (get_or words 0 0) (drop 2 words); sent = get_or words 1 0 }
+-- the first of the stamps, as many as the count says, and the largest curr sent. A count beyond the table shows stamps that aren't there
+abbrev pub held : State → Coordinator
+held state = record { granted = up_to 0 state.count state.stamps; sent = state.sent }
 
--- the words of a coordinator that isn't damaged
-pub record Sound (words : List ℕ) : Type 0 where
-  pub words_in : length words ≡ 66
-  pub count_in : get_or words 0 0 ≤ 64
-  pub rises : rising_from 0 (held words).granted ≡ true
+-- the state of a coordinator that isn't damaged
+pub record Sound (state : State) : Type 0 where
+  pub count_in : state.count ≤ 64
+  pub rises : rising_from 0 (held state).granted ≡ true
 
 -- a grant's promise: its answer and what is held afterwards
 pub record Granted (x : Granting) (answer : Answer) (coordinator : Coordinator) : Type 0 where

@@ -4,7 +4,7 @@
 pub mod kept;
 pub mod messages;
 
-ghost use Rattle.std.specs.Prelude.{◌≡◌, true, ◌∷◌, [], ◌++◌, ◌<◌, ◌≤◌, max, length, get_or, ltb};
+ghost use Rattle.std.specs.Prelude.{◌≡◌, true, ◌∷◌, [], ◌++◌, ◌<◌, ◌≤◌, length, ltb};
 ghost use Rattle.model.specs.declared.Answer.TheVariants.{Done};
 ghost use Rattle.model.specs.Lists.{pick, rising_from};
 ghost use Rattle.model.specs.Coordinator as model;
@@ -12,47 +12,16 @@ ghost use Rattle.coordinator.specs.States.{held, Sound, Granted};
 
 use model::Answer;
 
-// How many stamps are granted, the largest curr sent, then the stamps.
-pub type State = [u64; 66];
+// A stamp has 64 bits, and the node's number takes eight of them.
+const LAST_TICK: u64 = 72057594037927935;
 
-const COUNT: usize = 0;
-
-const SENT: usize = 1;
-
-const STAMPS: usize = 2;
-
-// A contract knows the length of an array by value, and not of a lent one. Compiled, the copy is gone.
-fn laid(state: State)
-    ensures { length state ≡ 66 }
-{}
-
-// The granted stamps, where their count is within the table.
-fn granted(state: &State) -> &[u64]
-    requires { (length state.now ≡ 66) × (get_or state.now 0 0 ≤ 64) }
-    ensures { result.now ≡ (held state.now).granted }
-{
-    let end = STAMPS + state[COUNT] as usize;
-    let words = &state[..];
-    &words[STAMPS..end]
-}
-
-// The same for any state, to be shown: none where their count is over 64.
-pub fn stamps(state: &State) -> &[u64]
-    ensures { result.now ≡ pick (ltb model.most_granted (length (held state.now).granted)) [] (held state.now).granted }
-{
-    laid(*state);
-    if 64 < state[COUNT] {
-        let words = &state[..];
-        return &words[..0];
-    }
-    granted(state)
-}
-
-// The largest curr sent.
-pub fn sent(state: &State) -> u64
-    ensures { result ≡ (held state.now).sent }
-{
-    state[SENT]
+// How many stamps are granted, the largest curr sent, then the stamps. The C interface lends it in this order; it may hold anything.
+#[derive(Clone, Copy)]
+#[repr(C)]
+pub struct State {
+    pub count: u64,
+    pub sent: u64,
+    pub stamps: [u64; 64],
 }
 
 // Strictly ascending from beyond 0: each stamp is a rise. No stamp ends the loop early.
@@ -61,96 +30,99 @@ fn rising(stamps: &[u64]) -> bool
 {
     let mut rises: usize = 0;
     let mut below: u64 = 0;
-    let mut i: usize = 0;
-    while i < stamps.len() {
-        let stamp = stamps[i];
-        i += 1;
-        if below < stamp {
+    for stamp in stamps {
+        if below < *stamp {
             rises += 1;
         }
-        below = stamp;
+        below = *stamp;
     }
-    rises == i
+    rises == stamps.len()
 }
 
-// More than 64 stamps, of which none is read then, or stamps out of order.
-pub fn damaged(state: &State) -> bool
-    ensures { result ≡ model.coordinator_damaged (held state.now) }
-{
-    laid(*state);
-    if 64 < state[COUNT] {
-        return true;
+impl State {
+    // The granted stamps, where their count is within the table.
+    fn granted(&self) -> &[u64]
+        requires { self.now.count ≤ 64 }
+        ensures { result.now ≡ (held self.now).granted }
+    {
+        &self.stamps[..self.count as usize]
     }
-    !rising(granted(state))
-}
 
-// The last granted stamp is the highest.
-fn top(state: &State) -> u64
-    requires { Sound state.now }
-    ensures { result ≡ model.top (held state.now) }
-{
-    let sent = state[SENT];
-    let stamps = granted(state);
-    let count = stamps.len();
-    if count == 0 {
-        return sent;
+    // The same for any state, to be shown: none where their count is over 64.
+    pub fn stamps(&self) -> &[u64]
+        ensures { result.now ≡ pick (ltb model.most_granted (length (held self.now).granted)) [] (held self.now).granted }
+    {
+        if 64 < self.count {
+            return &[];
+        }
+        self.granted()
     }
-    let last = stamps[count - 1];
-    if last < sent { sent } else { last }
-}
 
-// Nothing granted, nothing sent. The words behind the count are no stamps then.
-pub fn fresh(state: &mut State) -> Answer
-    ensures { (result ≡ Done 0) × (held state.new ≡ model.fresh_coordinator) }
-{
-    laid(*state);
-    state[COUNT] = 0;
-    state[SENT] = 0;
-    Answer::Done(0)
-}
+    // The largest curr sent.
+    pub fn sent(&self) -> u64
+        ensures { result ≡ (held self.now).sent }
+    {
+        self.sent
+    }
 
-// One stamp more, where there is room.
-fn add(state: &mut State, stamp: u64)
-    requires { (length state.old ≡ 66) × (get_or state.old 0 0 < 64) }
-    ensures { held state.new ≡ record { granted = (held state.old).granted ++ (stamp ∷ []); sent = (held state.old).sent } }
-{
-    let count = state[COUNT] as usize;
-    state[STAMPS + count] = stamp;
-    state[COUNT] = (count + 1) as u64;
-}
+    // More than 64 stamps, of which none is read then, or stamps out of order.
+    pub fn damaged(&self) -> bool
+        ensures { result ≡ model.coordinator_damaged (held self.now) }
+    {
+        64 < self.count || !rising(self.granted())
+    }
 
-// The largest curr sent is this one, or stays.
-fn send(state: &mut State, curr: u64)
-    requires { length state.old ≡ 66 }
-    ensures { held state.new ≡ record { granted = (held state.old).granted; sent = max (held state.old).sent curr } }
-{
-    if state[SENT] < curr {
-        state[SENT] = curr;
+    // The last granted stamp is the highest.
+    fn top(&self) -> u64
+        requires { Sound self.now }
+        ensures { result ≡ model.top (held self.now) }
+    {
+        match self.granted().last() {
+            Some(last) => self.sent.max(*last),
+            None => self.sent,
+        }
     }
-}
 
-// The snapshot 256 x tick + node.
-pub fn grant(state: &mut State, tick: u64, node: u64) -> Answer
-    ensures { Granted (model.grant (held state.old) tick node) result (held state.new) }
-{
-    laid(*state);
-    if damaged(state) {
-        return Answer::Damaged;
+    // Nothing granted, nothing sent. The words behind the count are no stamps then.
+    pub fn fresh(&mut self) -> Answer
+        ensures { (result ≡ Done 0) × (held self.new ≡ model.fresh_coordinator) }
+    {
+        self.count = 0;
+        self.sent = 0;
+        Answer::Done(0)
     }
-    if 72057594037927935 < tick {
-        return Answer::Shape;
+
+    // One stamp more, where there is room.
+    fn add(&mut self, stamp: u64)
+        requires { self.old.count < 64 }
+        ensures { held self.new ≡ record { granted = (held self.old).granted ++ (stamp ∷ []); sent = (held self.old).sent } }
+    {
+        self.stamps[self.count as usize] = stamp;
+        self.count += 1;
     }
-    if 256 <= node {
-        return Answer::Shape;
+
+    // The snapshot 256 x tick + node.
+    pub fn grant(&mut self, tick: u64, node: u64) -> Answer
+        ensures { Granted (model.grant (held self.old) tick node) result (held self.new) }
+    {
+        if self.damaged() {
+            return Answer::Damaged;
+        }
+        if LAST_TICK < tick {
+            return Answer::Shape;
+        }
+        if 256 <= node {
+            return Answer::Shape;
+        }
+        let stamp = 256 * tick + node;
+        let top = self.top();
+        if stamp <= top {
+            return Answer::Late(top);
+        }
+        if 64 <= self.count {
+            return Answer::SnapshotsFull;
+        }
+        self.add(stamp);
+        Answer::Done(stamp)
     }
-    let stamp = 256 * tick + node;
-    let top = top(state);
-    if stamp <= top {
-        return Answer::Late(top);
-    }
-    if 64 <= state[COUNT] {
-        return Answer::SnapshotsFull;
-    }
-    add(state, stamp);
-    Answer::Done(stamp)
 }

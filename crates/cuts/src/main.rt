@@ -3,42 +3,41 @@
 
 mod write;
 
-// Restart from these bytes, as a line: the answer, the place, standing. No table is empty before, so what is empty after was emptied.
+use tables::{Heads, Store, Written};
+
+// A store that isn't empty: what is empty after a restart was emptied by it.
+fn used() -> Store {
+    Store {
+        written: Written {
+            disk: [1; 512],
+            dated: [1; 512],
+            pending: [[1; 4]; 128],
+            past: [[1; 4]; 256],
+        },
+        snapshots: [1; 64],
+        copies: [[1; 2]; 128],
+        copied: [1; 2048],
+        heads: Heads {
+            pending: 1,
+            past: 1,
+            snapshots: 1,
+            copies: 1,
+            horizon: 1,
+            last: 1,
+        },
+    }
+}
+
+// Restart from these bytes, as a line: the answer, the place, standing.
 fn restarted(rt: &HostRuntime, before: &[u8], n: usize, journal: &[u8]) {
-    let mut disk = [1u64; 512];
-    let mut dated = [1u64; 512];
-    let mut pending = [[1u64; 4]; 128];
-    let mut past = [[1u64; 4]; 256];
-    let mut snapshots = [1u64; 64];
-    let mut copies = [[1u64; 2]; 128];
-    let mut copied = [1u64; 2048];
-    let started = restart::restart(
-        &mut disk,
-        &mut dated,
-        &mut pending,
-        &mut past,
-        &mut snapshots,
-        &mut copies,
-        &mut copied,
-        journal,
-    );
-    let stood = reads::standing(
-        &disk,
-        &dated,
-        &pending,
-        &past,
-        &snapshots,
-        &copies,
-        &copied,
-        started.heads,
-    );
-    let place = started.place;
+    let mut store = used();
+    let started = restart::restart_anew(&mut store, journal);
     prints::number(rt, before, n as u64);
-    let answer = started.answer;
-    prints::answered(rt, answer);
-    prints::number(rt, b", place ", place.at as u64);
-    let figures = stood.figures;
-    prints::figures(rt, figures);
+    prints::answered(rt, started.answer);
+    prints::number(rt, b", place ", started.place.at as u64);
+    if let Some(figures) = reads::standing_anew(&store) {
+        prints::figures(rt, figures);
+    }
     prints::end(rt);
 }
 
@@ -49,33 +48,18 @@ fn cut(rt: &HostRuntime, before: &[u8], journal: &[u8], n: usize) {
 }
 
 fn cuts(rt: &HostRuntime, journal: &[u8]) {
-    let mut n: usize = 0;
-    while n < journal.len() {
+    for n in 0..=journal.len() {
         cut(rt, b"first ", journal, n);
-        n += 1;
     }
-    cut(rt, b"first ", journal, n);
 }
 
-fn more(b: u8) -> u8 {
-    if b < 255 { b + 1 } else { 0 }
-}
-
-// The byte is set back after.
-fn change(rt: &HostRuntime, journal: &mut [u8], i: usize) {
-    if i < journal.len() {
+// Each byte in turn is one more, and set back after.
+fn changed(rt: &HostRuntime, journal: &mut [u8]) {
+    for i in 0..journal.len() {
         let b = journal[i];
-        journal[i] = more(b);
+        journal[i] = b.wrapping_add(1);
         restarted(rt, b"byte ", i, journal);
         journal[i] = b;
-    }
-}
-
-fn changed(rt: &HostRuntime, journal: &mut [u8]) {
-    let mut i: usize = 0;
-    while i < journal.len() {
-        change(rt, journal, i);
-        i += 1;
     }
 }
 

@@ -22,7 +22,7 @@ use Rattle.tables.proofs.Searches.{both_left}
 use Rattle.tables.proofs.Cases.{by_test, clash}
 use Rattle.tables.proofs.Copies.{no_copy, copies_of_length}
 use Rattle.tables.proofs.Counts.{up_to_take, up_to_length}
-use Rattle.damage.specs.Sifted.{Sifted, SiftedAnew}
+use Rattle.damage.specs.Sifted.{SiftedAnew}
 
 -- ---- a chain of tests
 pub hit : {a : Bool} (b : Bool) → a ≡ true → true ≡ either a b
@@ -155,17 +155,6 @@ module _ (values stamps : List ℕ) (pending past : List (List ℕ)) (snapshots 
         not_both,
         either_flat,
       )
-
--- a test of the ranges that hits
-pub sifted_hit : {pending past : List (List ℕ)} {snapshots : List ℕ} {copies : List (List ℕ)} {h : Heads}
-    → ((values stamps copied : List ℕ) → true ≡ damaged (contents values stamps pending past snapshots copies copied h)) → Sifted true pending past snapshots copies h
-sifted_hit d = record {
-  hit = λ e values stamps copied. sym (d values stamps copied);
-  left = λ e. clash e;
-  counted = λ e. clash e;
-  low = λ e. clash e;
-  rising = λ e. clash e;
-}
 
 -- ---- of a store: the tests of the ranges, in their order
 abbrev pub ranges : held.Store → Bool

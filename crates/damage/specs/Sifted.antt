@@ -1,23 +1,12 @@
 -- What the tests of the ranges tell: one that hits is damage; where none does, the counts and numbers are in range, the snapshots ascend, and damage is
 -- two entries of one object.
-use Rattle.std.specs.Prelude.{ℕ, ◌≡◌, Bool, true, false, List, map, take, leb}
+use Rattle.std.specs.Prelude.{◌≡◌, Bool, true, false, map, take, leb}
 use Rattle.model.specs.Lists.{any_b, twice_b, rising_from}
 use Rattle.model.specs.Damage.{damaged}
-use Rattle.tables.specs.declared.Heads.{Heads}
 use Rattle.tables.specs.declared.Store.{Store}
 use Rattle.tables.specs.Rows.{pendings}
-use Rattle.tables.specs.Contents.{contents, stored, Counted}
+use Rattle.tables.specs.Contents.{stored, Counted}
 
--- the words that no test reads may be any
-pub record Sifted (out : Bool) (pending past : List (List ℕ)) (snapshots : List ℕ) (copies : List (List ℕ)) (h : Heads) : Type 0 where
-  pub hit : out ≡ true → (values stamps copied : List ℕ) → damaged (contents values stamps pending past snapshots copies copied h) ≡ true
-  pub left : out ≡ false → (values stamps copied : List ℕ)
-      → damaged (contents values stamps pending past snapshots copies copied h) ≡ twice_b (map (λ e. e.object) (take h.pending (pendings pending)))
-  pub counted : out ≡ false → Counted h
-  pub low : out ≡ false → any_b (λ e. leb 512 e.object) (take h.pending (pendings pending)) ≡ false
-  pub rising : out ≡ false → rising_from 0 (take h.snapshots snapshots) ≡ true
-
--- the same of a store
 pub record SiftedAnew (out : Bool) (store : Store) : Type 0 where
   pub hit : out ≡ true → damaged (stored store) ≡ true
   pub left : out ≡ false → damaged (stored store) ≡ twice_b (map (λ e. e.object) (take store.heads.pending (pendings store.written.pending)))

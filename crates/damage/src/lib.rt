@@ -6,10 +6,10 @@ ghost use Rattle.model.specs.Lists.{either, any_b, twice_b};
 ghost use Rattle.model.specs.Damage as model;
 ghost use Rattle.tables.specs.Rows.{pendings, pasts, copy_heads, copies_of};
 ghost use Rattle.tables.specs.Lookups.{Indexed};
-ghost use Rattle.tables.specs.Contents.{contents, stored, Counted};
-ghost use Rattle.damage.specs.Sifted.{Sifted, SiftedAnew};
+ghost use Rattle.tables.specs.Contents.{stored, Counted};
+ghost use Rattle.damage.specs.Sifted.{SiftedAnew};
 
-use tables::{CopyTable, Heads, Index, PastTable, PendingTable, Snapshots, Store};
+use tables::{CopyTable, Heads, Index, PastTable, PendingTable, Store};
 
 // A count is over its limit.
 fn overfull(h: Heads) -> bool
@@ -53,33 +53,6 @@ fn copies_out(t: &CopyTable, n: usize) -> bool
     32 <= joined(&t[..n])
 }
 
-// A count or a number is out of its range, or the snapshots don't ascend to the horizon: all of Damaged but two entries of one object.
-pub fn out_of_range(
-    pending: &PendingTable,
-    past: &PastTable,
-    snapshots: &Snapshots,
-    copies: &CopyTable,
-    h: Heads,
-) -> bool
-    ensures { Sifted result pending.now past.now snapshots.now copies.now h }
-{
-    if overfull(h) {
-        return true;
-    }
-    if pending_out(pending, h.pending) {
-        return true;
-    }
-    if past_out(past, h.past) {
-        return true;
-    }
-    if copies_out(copies, h.copies) {
-        return true;
-    }
-    let n = h.snapshots;
-    let known = &snapshots[..];
-    !rules::ascending_within(0, h.horizon, &known[..n])
-}
-
 // Two of the entries are of one object; where none are, the index tells the row of each object's entry.
 // No entry ends the loop early: fresh stays 128 until an object comes that has a row already.
 pub fn met_again(t: &PendingTable, n: usize, index: &mut Index) -> bool
@@ -93,44 +66,6 @@ pub fn met_again(t: &PendingTable, n: usize, index: &mut Index) -> bool
         index[object] = i as u8;
     }
     fresh < 128
-}
-
-// Damaged; where it is not, the index tells the row of each object's entry. It comes with 128 for every object.
-pub fn damaged_or_indexed(
-    pending: &PendingTable,
-    past: &PastTable,
-    snapshots: &Snapshots,
-    copies: &CopyTable,
-    h: Heads,
-    index: &mut Index,
-) -> bool
-    requires { (o : ℕ) → get_or index.old o 128 ≡ 128 }
-    ensures { ((values stamps copied : List ℕ) → result ≡ model.damaged (contents values stamps pending.now past.now snapshots.now copies.now copied h)) × (result ≡ false → Indexed index.new (take h.pending (pendings pending.now))) }
-{
-    if out_of_range(pending, past, snapshots, copies, h) {
-        return true;
-    }
-    met_again(pending, h.pending, index)
-}
-
-pub fn damaged(
-    pending: &PendingTable,
-    past: &PastTable,
-    snapshots: &Snapshots,
-    copies: &CopyTable,
-    h: Heads,
-) -> bool
-    ensures { (values stamps copied : List ℕ) → result ≡ model.damaged (contents values stamps pending.now past.now snapshots.now copies.now copied h) }
-{
-    if out_of_range(pending, past, snapshots, copies, h) {
-        return true;
-    }
-    // One entry alone is no second one.
-    if h.pending < 2 {
-        return false;
-    }
-    let mut index = [128u8; 512];
-    met_again(pending, h.pending, &mut index)
 }
 
 // A count or a number is out of its range, or the snapshots don't ascend to the horizon: all of Damaged but two entries of one object.

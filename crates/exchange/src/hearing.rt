@@ -2,16 +2,17 @@
 ghost use Rattle.std.specs.Prelude.{◌≡◌, true, ◌≤◌, ◌+◌, ◌*◌, length, take, drop};
 ghost use Rattle.model.specs.Bytes.{from_be, column};
 ghost use Rattle.model.specs.Exchange as model;
-ghost use Rattle.tables.specs.Contents.{contents, stored};
-ghost use Rattle.changes.specs.Left.{Left};
+ghost use Rattle.tables.specs.Contents.{stored};
+ghost use Rattle.changes.specs.Left.{Left, Made};
 ghost use Rattle.changes.specs.Kept.{GossipKept};
 ghost use Rattle.exchange.specs.Messages.{framed_b, Spoken};
 
-use changes::settling::{Changed, ChangedAnew};
+use changes::settling::ChangedAnew;
+use journal::kind::Kind;
 use journal::place::{COUNT_AT, CURR_AT, KIND_AT, PREV_AT, Place, STAMPS_AT};
 use journal::walk::GossipHead;
 use model::Answer;
-use tables::{Copied, CopyTable, Disk, Heads, PastTable, PendingTable, Snapshots, Store};
+use tables::Store;
 
 // The number of eight bytes, read as two of four: the compiler makes one load of it.
 fn word_at(bytes: &[u8], at: usize) -> u64
@@ -34,7 +35,7 @@ fn framed(bytes: &[u8]) -> bool
     if length != bytes.len() - 2 {
         return false;
     }
-    if bytes[KIND_AT] != 2 {
+    if bytes[KIND_AT] != Kind::Gossip as u8 {
         return false;
     }
     let count = bytes[COUNT_AT] as usize;
@@ -49,10 +50,8 @@ fn read_stamps(bytes: &[u8], out: &mut [u64])
     requires { 20 + 8 * length out.old ≤ length bytes.now }
     ensures { out.new ≡ column 8 8 (length out.old) (drop 20 bytes.now) }
 {
-    let mut i: usize = 0;
-    while i < out.len() {
-        out[i] = word_at(bytes, STAMPS_AT + 8 * i);
-        i += 1;
+    for (i, stamp) in out.iter_mut().enumerate() {
+        *stamp = word_at(bytes, STAMPS_AT + 8 * i);
     }
 }
 
@@ -69,92 +68,38 @@ fn read_message(bytes: &[u8], stamps: &mut [u64]) -> GossipHead
     GossipHead { prev, curr, count }
 }
 
-// A refusal leaves heads and place as they were.
-fn refused(heads: Heads, answer: Answer, place: Place) -> Changed
-    ensures { result ≡ record { heads = heads; answer = answer; place = place } }
-{
-    Changed {
-        heads,
-        answer,
-        place,
-    }
-}
-
 // What the bytes tell is taken as gossip is, in the same order; bytes that are no message are refused before the journal's shape is asked.
-pub fn hear(
-    disk: &Disk,
-    dated: &Disk,
-    pending: &PendingTable,
-    past: &mut PastTable,
-    snapshots: &mut Snapshots,
-    copies: &CopyTable,
-    copied: &Copied,
-    h: Heads,
-    journal: &mut [u8],
-    used: Place,
-    message: &[u8],
-) -> Changed
-    ensures { Left (model.hear (contents disk.now dated.now pending.now past.old snapshots.old copies.now copied.now h) journal.old used.at message.now) result.answer (contents disk.now dated.now pending.now past.new snapshots.new copies.now copied.now result.heads) journal.new result.place.at }
-{
-    tables::laid(*disk, *dated, *pending, *past, *snapshots, *copies, *copied);
-    if damage::damaged(pending, past, snapshots, copies, h) {
-        return refused(h, Answer::Damaged, used);
-    }
-    if !framed(message) {
-        return refused(h, Answer::Malformed(0), used);
-    }
-    let mut room = [0u64; 16];
-    let head = read_message(message, &mut room);
-    let prev = head.prev;
-    let curr = head.curr;
-    let count = head.count;
-    let stamps = &room[..count];
-    if !rules::stamps_shaped(prev, curr, stamps) {
-        return refused(h, Answer::Malformed(0), used);
-    }
-    if !changes::settling::journal_shaped(journal, used) {
-        return refused(h, Answer::Shape, used);
-    }
-    let verdict = gossips::judge_gossip(snapshots, h, prev, curr, stamps);
-    let answer = changes::settling::settled(verdict, journal, used, 18 + 8 * count);
-    if answer.code() != 0 {
-        return refused(h, answer, used);
-    }
-    let heads = gossips::apply_gossip(past, snapshots, copies, h, curr, stamps);
-    let place = used.append_gossip(journal, prev, curr, stamps);
-    Changed {
-        heads,
-        answer,
-        place,
-    }
-}
-
-// What the bytes tell is taken as gossip is, in the same order; bytes that are no message are refused before the journal's shape is asked.
-pub fn hear_anew(
+fn heard(
     store: &mut Store,
     journal: &mut [u8],
     used: Place,
     message: &[u8],
-) -> ChangedAnew
+) -> Result<Place, Answer>
+    ensures made { Made (model.hear (stored store.old) journal.old used.at message.now) result (stored store.new) journal.new used.at }
+    ensures kept { GossipKept store.old store.new }
+{
+    if damage::damaged_anew(store) {
+        return Err(Answer::Damaged);
+    }
+    if !framed(message) {
+        return Err(Answer::Malformed(0));
+    }
+    let mut room = [0u64; 16];
+    let head = read_message(message, &mut room);
+    let stamps = &room[..head.count];
+    if !rules::stamps_shaped(head.prev, head.curr, stamps) {
+        return Err(Answer::Malformed(0));
+    }
+    if !changes::settling::journal_shaped(journal, used) {
+        return Err(Answer::Shape);
+    }
+    changes::gossiping::take_anew(store, journal, used, head.prev, head.curr, stamps)
+}
+
+// Takes the bytes of a message as gossip.
+pub fn hear_anew(store: &mut Store, journal: &mut [u8], used: Place, message: &[u8]) -> ChangedAnew
     ensures left { Left (model.hear (stored store.old) journal.old used.at message.now) result.answer (stored store.new) journal.new result.place.at }
     ensures kept { GossipKept store.old store.new }
 {
-    let c = hear(
-        &store.written.disk,
-        &store.written.dated,
-        &store.written.pending,
-        &mut store.written.past,
-        &mut store.snapshots,
-        &store.copies,
-        &store.copied,
-        store.heads,
-        journal,
-        used,
-        message,
-    );
-    store.heads = c.heads;
-    ChangedAnew {
-        answer: c.answer,
-        place: c.place,
-    }
+    ChangedAnew::told(heard(store, journal, used, message), used)
 }

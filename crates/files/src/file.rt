@@ -1,10 +1,10 @@
 // The journal's file. No file stands for a journal in memory, which needs none of this.
 ghost use Rattle.std.specs.Prelude.{◌+◌, ◌≤◌, length};
-ghost use Rattle.io.specs.Counts.{IsPrefixLen};
 
-use crate::{identity, names, paths, torn, trouble};
+use crate::{identity, names, paths, text, torn, trouble};
 use std::fs::File;
-use std::io::{Error, ErrorKind, Result, Seek, SeekFrom, Write};
+use std::io;
+use std::io::{Error, ErrorKind, Seek, SeekFrom, Write};
 use std::os::unix::fs::FileExt;
 
 // A place as the system counts it. No place in a journal lies beyond these, and there is none of the last number.
@@ -18,9 +18,7 @@ fn offset(at: usize) -> u64 {
 
 // Waits until the file's name is in its folder for good. If it can't, there was a word on standard error.
 pub fn is_named(rt: &HostRuntime, path: &[u8]) -> bool {
-    let mut name = io::buffer();
-    let n = paths::folder(path, &mut name);
-    match names::open_read(rt, &name[..n]) {
+    match names::open_read(rt, paths::folder(path)) {
         Ok(folder) => is_flushed(rt, path, &folder),
         Err(error) => {
             trouble::fail(rt, path, &error);
@@ -88,50 +86,39 @@ pub fn opened(rt: &HostRuntime, path: &[u8]) -> Option<File> {
     }
 }
 
-// The number of bytes read, as far as the journal's room goes.
-#[derive(Clone, Copy)]
-pub enum Whole {
-    Bytes(usize),
-    Failed,
-}
-
-// How many of the bytes were read: none where reading failed.
-pub fn count(whole: Whole, bytes: &[u8]) -> usize
-    ensures { IsPrefixLen result bytes.now }
-{
-    match whole {
-        Whole::Bytes(n) => paths::within(n, bytes),
-        Whole::Failed => paths::within(0, bytes),
-    }
-}
-
-fn read_behind(file: &File, journal: &mut [u8], at: usize) -> Result<usize>
+fn read_behind(file: &File, journal: &mut [u8], at: usize) -> io::Result<usize>
     requires { at ≤ length journal.old }
 {
     file.read_at(&mut journal[at..], offset(at))
 }
 
-pub fn read(rt: &HostRuntime, path: &[u8], file: Option<&File>, journal: &mut [u8]) -> Whole {
+// How many bytes were read, as far as the journal's room goes. Where reading failed there was a word on standard error.
+pub fn read(
+    rt: &HostRuntime,
+    path: &[u8],
+    file: Option<&File>,
+    journal: &mut [u8],
+) -> Option<usize> {
     let Some(file) = file else {
-        return Whole::Bytes(0);
+        return Some(0);
     };
     let mut n: usize = 0;
     while n < journal.len() {
         match read_behind(file, journal, n) {
             Err(error) => {
                 trouble::fail(rt, path, &error);
-                return Whole::Failed;
+                return None;
             }
             Ok(got) => {
                 let more = paths::within(got, &journal[n..]);
                 if more == 0 {
-                    return Whole::Bytes(n);
+                    return Some(n);
                 }
                 n += more;
             }
         }
     }
-    Whole::Bytes(n)
+    Some(n)
 }
 
 // Cuts the file to its first bytes, for good.
@@ -196,7 +183,7 @@ pub fn say_changed(rt: &HostRuntime, path: &[u8]) {
 }
 
 // Where the file ends.
-fn end_of(file: &File) -> Result<u64> {
+fn end_of(file: &File) -> io::Result<u64> {
     let mut handle = file;
     handle.seek(SeekFrom::End(0))
 }
@@ -228,13 +215,13 @@ pub fn say_moved(rt: &HostRuntime, path: &[u8]) {
 
 // The name still leads to the open file. Records in a file without a name would be lost.
 fn is_there(rt: &HostRuntime, path: &[u8], file: &File) -> bool {
-    let held = identity::of_open(file);
-    let named = identity::of_name(rt, path);
-    if identity::is_same(held, named) {
-        return true;
+    match (identity::of_open(file), identity::of_name(rt, path)) {
+        (Ok(held), Ok(named)) if held.inode == named.inode => true,
+        _ => {
+            say_moved(rt, path);
+            false
+        }
     }
-    say_moved(rt, path);
-    false
 }
 
 // The journal's bytes from old to new are in the file for good. Where they aren't, the file is cut back to what it was.
@@ -274,42 +261,39 @@ pub fn is_filled(rt: &HostRuntime, name: &[u8], mut file: File, bytes: &[u8]) ->
     }
 }
 
-// What came of a new file in the place of the old one, which is kept as JOURNAL.old. In memory there is none.
-#[derive(Drop)]
-pub enum Renewal {
-    File(Option<File>),
+// Why there is no new file: JOURNAL.old is in the way, the name is a link, or something failed, after a word on standard error.
+#[derive(Clone, Copy, PartialEq, Eq, Debug)]
+pub enum NotRenewed {
     Barred,
     Linked,
     Failed,
 }
 
-// Nothing has this name, not even a link that leads nowhere.
-pub fn is_free(rt: &HostRuntime, name: &[u8]) -> bool {
-    identity::of_entry(rt, name).absent
-}
-
-pub fn renew(rt: &HostRuntime, path: &[u8], file: Option<&File>) -> Renewal {
+// A new file in the place of the old one, which is kept as JOURNAL.old. In memory there is none.
+pub fn renew(
+    rt: &HostRuntime,
+    path: &[u8],
+    file: Option<&File>,
+) -> Result<Option<File>, NotRenewed> {
     let Some(file) = file else {
-        return Renewal::File(None);
+        return Ok(None);
     };
-    if identity::is_link(identity::of_entry(rt, path)) {
-        return Renewal::Linked;
+    if identity::is_link(rt, path) {
+        return Err(NotRenewed::Linked);
     }
     if !is_there(rt, path, file) {
-        return Renewal::Failed;
+        return Err(NotRenewed::Failed);
     }
-    let mut name = io::buffer();
-    let n = paths::joined(path, b".old", &mut name);
-    if !is_free(rt, &name[..n]) {
-        return Renewal::Barred;
+    let name = text::joined(path, b".old");
+    if !identity::is_free(rt, name.bytes()) {
+        return Err(NotRenewed::Barred);
     }
-    if let Err(error) = names::rename(rt, path, &name[..n]) {
+    if let Err(error) = names::rename(rt, path, name.bytes()) {
         trouble::fail(rt, path, &error);
-        return Renewal::Failed;
+        return Err(NotRenewed::Failed);
     }
-    let next = made(rt, path);
-    if next.is_none() {
-        return Renewal::Failed;
+    match made(rt, path) {
+        Some(next) => Ok(Some(next)),
+        None => Err(NotRenewed::Failed),
     }
-    Renewal::File(next)
 }

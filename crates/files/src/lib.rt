@@ -9,6 +9,7 @@ pub mod lock;
 pub mod names;
 pub mod paths;
 pub mod room;
+pub mod text;
 mod told;
 pub mod torn;
 pub mod trouble;

@@ -1,7 +1,8 @@
 // The lock: JOURNAL.lock holds the line of the process that has the journal. So it is with every file that is kept.
-ghost use Rattle.io.specs.Counts.{IsPrefixLen};
-
-use crate::{file, holder, identity, names, paths, trouble, wait};
+use crate::holder::Holder;
+use crate::text::Text;
+use crate::wait::Wait;
+use crate::{holder, identity, names, paths, text, trouble, wait};
 use std::fs::File;
 use std::io::{ErrorKind, Write};
 
@@ -12,69 +13,54 @@ const GOING: u64 = 1;
 
 // A line has its end.
 fn is_whole(line: &[u8]) -> bool {
-    let n = line.len();
-    if n == 0 {
-        return false;
-    }
-    if line[n - 1] != b'\n' {
-        return false;
-    }
-    paths::number(line) != 0
+    line.last() == Some(&b'\n') && paths::number(line) != 0
 }
 
 // The line in a lock, or none where it isn't whole.
-fn line_in(rt: &HostRuntime, lock: &[u8], out: &mut [u8]) -> usize
-    ensures { IsPrefixLen result out.new }
-{
-    let n = holder::text_of(rt, lock, out);
-    if is_whole(&out[..n]) {
-        return n;
+fn line_in(rt: &HostRuntime, lock: &[u8]) -> Option<Holder> {
+    let line: Holder = holder::text_of(rt, lock);
+    if is_whole(line.bytes()) {
+        return Some(line);
     }
-    paths::within(0, out)
+    None
 }
 
 // The same, after some waiting for a line while the lock is there.
-fn awaited(rt: &HostRuntime, lock: &[u8], out: &mut [u8]) -> usize
-    ensures { IsPrefixLen result out.new }
-{
-    let mut waiting = wait::begun(rt, UNWRITTEN);
-    while 0 < waiting.left {
-        let n = line_in(rt, lock, out);
-        if 0 < n {
-            return n;
+fn awaited(rt: &HostRuntime, lock: &[u8]) -> Holder {
+    let mut waiting = Wait::begun(rt, UNWRITTEN);
+    for _ in 0..wait::TRIES {
+        if let Some(line) = line_in(rt, lock) {
+            return line;
         }
-        if file::is_free(rt, lock) {
-            return paths::within(0, out);
+        if identity::is_free(rt, lock) || !waiting.goes_on(rt) {
+            return Text::new();
         }
-        waiting = waiting.next(rt);
     }
-    paths::within(0, out)
+    Text::new()
 }
 
 // The process of a line is gone, after some waiting: one that was killed may still be going.
 fn is_gone(rt: &HostRuntime, line: &[u8]) -> bool {
-    let mut waiting = wait::begun(rt, GOING);
-    while 0 < waiting.left {
+    let mut waiting = Wait::begun(rt, GOING);
+    for _ in 0..wait::TRIES {
         if !holder::lives(rt, line) {
             return true;
         }
-        waiting = waiting.next(rt);
+        if !waiting.goes_on(rt) {
+            return false;
+        }
     }
     false
 }
 
 fn has_our_line(rt: &HostRuntime, lock: &[u8]) -> bool {
-    let mut ours = [0u8; 128];
-    let n = holder::own_line(rt, &mut ours);
-    let mut found = [0u8; 128];
-    let m = line_in(rt, lock, &mut found);
-    paths::is_same(&ours[..n], &found[..m])
+    let ours = holder::own_line(rt);
+    let found = line_in(rt, lock).unwrap_or(Text::new());
+    ours.bytes() == found.bytes()
 }
 
 fn write_own(rt: &HostRuntime, lock: &[u8], mut file: File) -> bool {
-    let mut line = [0u8; 128];
-    let n = holder::own_line(rt, &mut line);
-    match file.write_all(&line[..n]) {
+    match file.write_all(holder::own_line(rt).bytes()) {
         Ok(()) => true,
         Err(error) => {
             trouble::fail(rt, lock, &error);
@@ -111,7 +97,7 @@ fn is_guarded(rt: &HostRuntime, guard: &[u8]) -> bool {
     if let Ok(file) = names::create(rt, guard) {
         return is_ours(rt, guard, file);
     }
-    if identity::is_folder(identity::of_name(rt, guard)) {
+    if identity::is_folder(rt, guard) {
         trouble::say(
             rt,
             guard,
@@ -119,9 +105,8 @@ fn is_guarded(rt: &HostRuntime, guard: &[u8]) -> bool {
         );
         return false;
     }
-    let mut line = [0u8; 128];
-    let n = awaited(rt, guard, &mut line);
-    let held = &line[..n];
+    let line = awaited(rt, guard);
+    let held = line.bytes();
     if !is_gone(rt, held) {
         trouble::say_of(rt, guard, paths::number(held), b" is taking the lock over");
         return false;
@@ -133,19 +118,15 @@ fn is_guarded(rt: &HostRuntime, guard: &[u8]) -> bool {
 // Takes away the lock of a process that is gone. It is read again behind the guard JOURNAL.lock.take, since another program may have
 // taken it over, or away, meanwhile.
 fn is_removed(rt: &HostRuntime, lock: &[u8], held: &[u8]) -> bool {
-    let mut guard = io::buffer();
-    let n = paths::joined(lock, b".take", &mut guard);
-    if !is_guarded(rt, &guard[..n]) {
+    let guard = text::joined(lock, b".take");
+    if !is_guarded(rt, guard.bytes()) {
         return false;
     }
-    let mut line = [0u8; 128];
-    let m = awaited(rt, lock, &mut line);
-    let same = paths::is_same(held, &line[..m]);
-    if same {
+    if held == awaited(rt, lock).bytes() {
         let _ = names::unlink(rt, lock);
     }
-    let free = file::is_free(rt, lock);
-    let _ = names::unlink(rt, &guard[..n]);
+    let free = identity::is_free(rt, lock);
+    let _ = names::unlink(rt, guard.bytes());
     if !free {
         trouble::say(rt, lock, b"another program has taken it");
     }
@@ -170,15 +151,14 @@ fn say_held(rt: &HostRuntime, path: &[u8], what: &[u8], process: u64, lock: &[u8
 }
 
 fn is_taken_over(rt: &HostRuntime, path: &[u8], what: &[u8], lock: &[u8]) -> bool {
-    let mut line = [0u8; 128];
-    let n = awaited(rt, lock, &mut line);
-    let held = &line[..n];
+    let line = awaited(rt, lock);
+    let held = line.bytes();
     let process = paths::number(held);
     if !is_gone(rt, held) {
         say_held(rt, path, what, process, lock);
         return false;
     }
-    if file::is_free(rt, lock) {
+    if identity::is_free(rt, lock) {
         return is_made(rt, lock);
     }
     if !is_removed(rt, lock, held) {
@@ -190,9 +170,8 @@ fn is_taken_over(rt: &HostRuntime, path: &[u8], what: &[u8], lock: &[u8]) -> boo
 
 // The lock is ours. If not, there was a word on standard error; `what` is how it calls the file, as `the journal`.
 pub fn is_taken(rt: &HostRuntime, path: &[u8], what: &[u8]) -> bool {
-    let mut name = io::buffer();
-    let n = paths::joined(path, b".lock", &mut name);
-    let lock = &name[..n];
+    let name = text::joined(path, b".lock");
+    let lock = name.bytes();
     match names::create(rt, lock) {
         Ok(file) => is_ours(rt, lock, file),
         Err(error) => {
@@ -208,7 +187,7 @@ pub fn is_taken(rt: &HostRuntime, path: &[u8], what: &[u8]) -> bool {
 
 // The same, where there is a lock already.
 fn is_shared(rt: &HostRuntime, path: &[u8], what: &[u8], lock: &[u8]) -> bool {
-    if identity::is_folder(identity::of_name(rt, lock)) {
+    if identity::is_folder(rt, lock) {
         trouble::say(rt, lock, b"it is a folder, where the lock should be");
         return false;
     }
@@ -216,22 +195,19 @@ fn is_shared(rt: &HostRuntime, path: &[u8], what: &[u8], lock: &[u8]) -> bool {
 }
 
 pub fn release(rt: &HostRuntime, path: &[u8]) {
-    let mut name = io::buffer();
-    let n = paths::joined(path, b".lock", &mut name);
-    if has_our_line(rt, &name[..n]) {
-        let _ = names::unlink(rt, &name[..n]);
+    let name = text::joined(path, b".lock");
+    if has_our_line(rt, name.bytes()) {
+        let _ = names::unlink(rt, name.bytes());
     }
 }
 
 // Takes the lock away, without a word, if its process is gone: after a signal, which no program of the kit can catch.
 pub fn clear(rt: &HostRuntime, path: &[u8]) {
-    let mut name = io::buffer();
-    let n = paths::joined(path, b".lock", &mut name);
-    let lock = &name[..n];
-    let mut line = [0u8; 128];
-    let m = line_in(rt, lock, &mut line);
-    let held = &line[..m];
-    if 0 < m && is_gone(rt, held) {
-        is_removed(rt, lock, held);
+    let name = text::joined(path, b".lock");
+    let lock = name.bytes();
+    if let Some(held) = line_in(rt, lock) {
+        if is_gone(rt, held.bytes()) {
+            is_removed(rt, lock, held.bytes());
+        }
     }
 }

@@ -50,28 +50,16 @@ fn told(error: &Error, out: &mut [u8; ROOM]) -> usize
     paths::within(ROOM.saturating_sub(left), out)
 }
 
-// How many bytes stand before the last bracket that opens, and all of them where there is none.
-fn before_bracket(text: &[u8]) -> usize
-    ensures { IsPrefixLen result text.now }
-{
-    let mut at = text.len();
-    while 0 < at {
-        at -= 1;
-        if text[at] == b'(' {
-            return at;
-        }
-    }
-    text.len()
-}
-
-// The error's text: of one that the system told, its own words, without the number that std puts behind them.
+// The error's text: of one that the system told, its own words, without the number in brackets that std puts behind them.
 fn words(error: &Error, text: &[u8]) -> usize
     ensures { IsPrefixLen result text.now }
 {
     if error.raw_os_error().is_none() {
-        return paths::within(text.len(), text);
+        return text.len();
     }
-    paths::within(before_bracket(text).saturating_sub(1), text)
+    let bracket = text.iter().rposition(|b| *b == b'(');
+    let end = bracket.unwrap_or(text.len());
+    paths::within(end.saturating_sub(1), text)
 }
 
 // A name, and what the system or std says of a call that failed.

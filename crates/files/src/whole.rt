@@ -1,8 +1,7 @@
 // A file that is always replaced whole: its new bytes are written under another name, PATH.new, and are there for good before that
 // is renamed to PATH. So PATH has all of the old bytes or all of the new ones, at every moment.
-use crate::file::Whole;
-use crate::identity::Identity;
-use crate::{file, identity, names, paths, trouble};
+use crate::identity::{Identity, Seen};
+use crate::{file, identity, names, paths, text, trouble};
 use std::fs::{File, Permissions};
 use std::os::unix::fs::{PermissionsExt, fchown};
 
@@ -11,7 +10,7 @@ const RIGHTS: u32 = 0o777;
 
 // A rename puts a file in the place of the name, and a link would be gone: the file that it led to would keep the old bytes.
 fn is_no_link(rt: &HostRuntime, path: &[u8], there: Identity) -> bool {
-    if !identity::is_link(there) {
+    if !there.is_link() {
         return true;
     }
     trouble::say(
@@ -24,14 +23,13 @@ fn is_no_link(rt: &HostRuntime, path: &[u8], there: Identity) -> bool {
 
 // Whether the file can be replaced: a file of this one name, or none yet. If not, there was a word on standard error.
 pub fn is_single(rt: &HostRuntime, path: &[u8]) -> bool {
-    let there = identity::of_entry(rt, path);
-    if !there.found {
+    let Ok(there) = identity::of_entry(rt, path) else {
         return true;
-    }
+    };
     if !is_no_link(rt, path, there) {
         return false;
     }
-    if !identity::is_plain(there) {
+    if !there.is_plain() {
         trouble::say(rt, path, b"it is no plain file");
         return false;
     }
@@ -52,13 +50,11 @@ fn is_lasting(rt: &HostRuntime, path: &[u8], file: &File) -> bool {
 }
 
 // The file's bytes, as far as the room goes. An absent file is made, with none.
-pub fn read(rt: &HostRuntime, path: &[u8], out: &mut [u8]) -> Whole {
-    let Some(file) = file::opened(rt, path) else {
-        return Whole::Failed;
-    };
+pub fn read(rt: &HostRuntime, path: &[u8], out: &mut [u8]) -> Option<usize> {
+    let file = file::opened(rt, path)?;
     let lasting = is_lasting(rt, path, &file);
-    let whole = file::read(rt, path, Some(&file), out);
-    if lasting { whole } else { Whole::Failed }
+    let count = file::read(rt, path, Some(&file), out)?;
+    if lasting { Some(count) } else { None }
 }
 
 // The file at this name, opened to be read. If it can't be, there was a word on standard error.
@@ -82,18 +78,15 @@ fn is_ours(rt: &HostRuntime, path: &[u8], bytes: &[u8]) -> bool {
         return false;
     };
     let mut found = io::buffer();
-    let whole = file::read(rt, path, Some(&file), &mut found);
-    match whole {
-        Whole::Failed => false,
-        Whole::Bytes(count) => {
-            let n = paths::within(count, &found);
-            let same = paths::is_same(&found[..n], bytes);
-            if !same {
-                file::say_changed(rt, path);
-            }
-            same
-        }
+    let Some(count) = file::read(rt, path, Some(&file), &mut found) else {
+        return false;
+    };
+    let n = paths::within(count, &found);
+    let same = &found[..n] == bytes;
+    if !same {
+        file::say_changed(rt, path);
     }
+    same
 }
 
 // Whether nothing has the name any more.
@@ -110,9 +103,19 @@ fn is_cleared(rt: &HostRuntime, name: &[u8]) -> bool {
     }
 }
 
+// The owner and the rights of another file, as far as we may give it away. One that can't be seen any more gives none.
+fn give(new: &File, like: Seen) {
+    let (owner, group, mode) = match like {
+        Ok(there) => (there.owner, there.group, there.mode),
+        Err(_) => (0, 0, 0),
+    };
+    let _ = fchown(new, Some(owner), Some(group));
+    let _ = new.set_permissions(Permissions::from_mode(mode & RIGHTS));
+}
+
 // A new file of the same owner, as far as we may give it away, and of the same rights. One that a kill left under its name is taken
 // away first and not written into: that name may be a link, or a second name of another file.
-fn made(rt: &HostRuntime, name: &[u8], like: Identity) -> Option<File> {
+fn made(rt: &HostRuntime, name: &[u8], like: Seen) -> Option<File> {
     if !is_cleared(rt, name) {
         return None;
     }
@@ -122,8 +125,7 @@ fn made(rt: &HostRuntime, name: &[u8], like: Identity) -> Option<File> {
             None
         }
         Ok(new) => {
-            let _ = fchown(&new, Some(like.owner), Some(like.group));
-            let _ = new.set_permissions(Permissions::from_mode(like.mode & RIGHTS));
+            give(&new, like);
             Some(new)
         }
     }
@@ -142,15 +144,16 @@ fn is_renamed(rt: &HostRuntime, name: &[u8], path: &[u8]) -> bool {
 // The file has the new bytes for good; before, it had the old ones, fewer than 4096. If not, there was a word on standard error.
 pub fn is_replaced(rt: &HostRuntime, path: &[u8], old: &[u8], new: &[u8]) -> bool {
     let there = identity::of_entry(rt, path);
-    if !is_no_link(rt, path, there) {
-        return false;
+    if let Ok(entry) = there {
+        if !is_no_link(rt, path, entry) {
+            return false;
+        }
     }
     if !is_ours(rt, path, old) {
         return false;
     }
-    let mut room = io::buffer();
-    let n = paths::joined(path, b".new", &mut room);
-    let name = &room[..n];
+    let joined = text::joined(path, b".new");
+    let name = joined.bytes();
     let Some(file) = made(rt, name, there) else {
         return false;
     };

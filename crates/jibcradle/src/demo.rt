@@ -1,16 +1,5 @@
 // Document 01's worked night, as lines of input.
-ghost use Rattle.io.specs.Counts.{IsPrefixLen};
-
-use files::paths;
-
-// Puts the lines into the buffer; how many bytes they are.
-pub fn lay(buffer: &mut [u8]) -> usize
-    ensures { IsPrefixLen result buffer.new }
-{
-    paths::append(
-        buffer,
-        0,
-        b"# 1. a commit stamped 100 gives object 0 the value 7; the journal now has 23 bytes
+pub const LINES: &[u8] = b"# 1. a commit stamped 100 gives object 0 the value 7; the journal now has 23 bytes
 commit 100 0=7
 # 2. the same stamp again is late: 100 is the last commit
 commit 100 0=7
@@ -50,6 +39,4 @@ cut 22
 standing
 fresh
 cut 0
-",
-    )
-}
+";

@@ -1,15 +1,17 @@
 // One line served: the call that it is, carried out and answered.
 use crate::{help, say};
-use changes::settling::Changed;
-use files::file::Renewal;
+use changes::settling::ChangedAnew;
+use changes::{committing, flushing, gossiping};
+use exchange::{asking, hearing};
+use files::file::NotRenewed;
 use files::{file, paths, room};
 use journal::place::Place;
-use lines::Call;
-use model::Answer;
-use reads::Knowledge;
-use restart::Started;
+use lines::{Call, Listed};
+use model::{Answer, NO_FIGURES};
+use restart::StartedAnew;
 use std::fs::File;
-use tables::{Copied, CopyTable, Disk, Heads, PastTable, PendingTable, Snapshots};
+use tables::Store;
+use terminal::serve::{Desk, Stop, given};
 use terminal::{entries, hex};
 
 // The bytes of a request, and where a message's curr stands in its bytes.
@@ -17,218 +19,15 @@ const REQUEST: usize = 19;
 
 const CURR: usize = 11;
 
-// What stands between two calls, the tables aside: the journal's file, or none in memory, whether another call is taken, and whether
-// all was served so far.
+// A store at work: its journal, up to where it is used, and the journal's file, or none in memory. The one byte more than a journal
+// may have shows a file that is longer.
 #[derive(Drop)]
-pub struct Desk {
-    pub heads: Heads,
+pub struct Keeper<'a> {
+    pub store: Store,
+    pub journal: [u8; 65536],
     pub place: Place,
+    pub path: &'a [u8],
     pub file: Option<File>,
-    pub going: bool,
-    pub served: bool,
-}
-
-impl Desk {
-    // The same store, after an answer that was given or not.
-    fn after(self, given: bool) -> Desk {
-        let heads = self.heads;
-        let place = self.place;
-        Desk {
-            heads,
-            place,
-            file: self.file,
-            going: given,
-            served: given,
-        }
-    }
-
-    // The same store, and no more calls.
-    fn ended(self) -> Desk {
-        let heads = self.heads;
-        let place = self.place;
-        Desk {
-            heads,
-            place,
-            file: self.file,
-            going: false,
-            served: true,
-        }
-    }
-}
-
-// Commit, gossip and flush. No other call comes here.
-fn change(
-    disk: &mut Disk,
-    dated: &mut Disk,
-    pending: &mut PendingTable,
-    past: &mut PastTable,
-    snapshots: &mut Snapshots,
-    copies: &mut CopyTable,
-    copied: &mut Copied,
-    journal: &mut [u8],
-    desk: &Desk,
-    call: Call,
-    firsts: &[u64; 17],
-    seconds: &[u64; 17],
-) -> Changed {
-    let objects = &firsts[..];
-    let values = &seconds[..];
-    let h = desk.heads;
-    let used = desk.place;
-    match call {
-        Call::Commit(stamp, count) => {
-            let t = stamp;
-            let n = entries(count, objects);
-            let m = entries(count, values);
-            changes::committing::commit(
-                disk,
-                dated,
-                pending,
-                past,
-                snapshots,
-                copies,
-                copied,
-                h,
-                journal,
-                used,
-                t,
-                &objects[..n],
-                &values[..m],
-            )
-        }
-        Call::Gossip(prev, curr, count) => {
-            let from = prev;
-            let to = curr;
-            let n = entries(count, objects);
-            changes::gossiping::gossip(
-                disk,
-                dated,
-                pending,
-                past,
-                snapshots,
-                copies,
-                copied,
-                h,
-                journal,
-                used,
-                from,
-                to,
-                &objects[..n],
-            )
-        }
-        Call::Flush(page) => {
-            let p = page;
-            changes::flushing::flush(
-                disk, dated, pending, past, snapshots, copies, copied, h, journal, used, p,
-            )
-        }
-        _ => Changed {
-            heads: h,
-            answer: Answer::Nothing(0),
-            place: used,
-        },
-    }
-}
-
-// A change that was made is answered once its record is in the file.
-fn settled(rt: &HostRuntime, path: &[u8], journal: &[u8], desk: Desk, done: Changed) -> Desk {
-    let old = desk.place;
-    let new = done.place;
-    let answer = done.answer;
-    if answer.code() == 0 {
-        if !file::is_saved(rt, path, desk.file.as_ref(), journal, old.at, new.at) {
-            return desk.after(false);
-        }
-    }
-    let heads = done.heads;
-    let given = terminal::say::answer(rt, answer);
-    if desk.file.is_some() {
-        room::tell(rt, path, old.at, new.at);
-    }
-    Desk {
-        heads,
-        place: new,
-        file: desk.file,
-        going: given,
-        served: given,
-    }
-}
-
-// What can be read: the horizon, the last commit, the known snapshots.
-fn show_known(rt: &HostRuntime, known: Knowledge) -> bool {
-    let answer = known.answer;
-    let stamps = known.stamps;
-    let n = entries(known.count as usize, &stamps);
-    terminal::say::known(rt, answer, known.horizon, known.last, &stamps[..n])
-}
-
-// The three reads, ask, known, and standing. False where the answer could not be given.
-fn show(
-    rt: &HostRuntime,
-    disk: &Disk,
-    dated: &Disk,
-    pending: &PendingTable,
-    past: &PastTable,
-    snapshots: &Snapshots,
-    copies: &CopyTable,
-    copied: &Copied,
-    h: Heads,
-    call: Call,
-) -> bool {
-    let mut words = [0u64; 16];
-    match call {
-        Call::Read(time, page) => {
-            let t = time;
-            let p = page;
-            let answer = reads::snapshot_read(
-                disk, dated, pending, past, snapshots, copies, copied, h, t, p, &mut words,
-            );
-            say::page(rt, answer, &words)
-        }
-        Call::Clock(tick, page) => {
-            let t = tick;
-            let p = page;
-            let answer = reads::clock_read(
-                disk, dated, pending, past, snapshots, copies, copied, h, t, p, &mut words,
-            );
-            say::page(rt, answer, &words)
-        }
-        Call::Now(page) => {
-            let p = page;
-            let answer = reads::current_read(
-                disk, dated, pending, past, snapshots, copies, copied, h, p, &mut words,
-            );
-            say::page(rt, answer, &words)
-        }
-        Call::Ask(curr) => {
-            let to = curr;
-            let mut request = [0u8; REQUEST];
-            let answer = exchange::asking::ask(
-                disk,
-                dated,
-                pending,
-                past,
-                snapshots,
-                copies,
-                copied,
-                h,
-                to,
-                &mut request,
-            );
-            let n = terminal::say::written(answer, &request);
-            terminal::say::bytes(rt, answer, &request[..n])
-        }
-        Call::Known => {
-            let known = reads::known(disk, dated, pending, past, snapshots, copies, copied, h);
-            show_known(rt, known)
-        }
-        _ => {
-            let stood = reads::standing(disk, dated, pending, past, snapshots, copies, copied, h);
-            let answer = stood.answer;
-            let figures = stood.figures;
-            say::standing(rt, answer, figures)
-        }
-    }
 }
 
 // The curr of a message: the eight bytes behind its prev.
@@ -239,223 +38,198 @@ fn curr_of(message: &[u8]) -> u64 {
     fields::get_be(message, CURR, 8)
 }
 
-// A message that a coordinator wrote. One that starts beyond the horizon is answered with the request for what lies between.
-fn heard(
-    rt: &HostRuntime,
-    disk: &Disk,
-    dated: &Disk,
-    pending: &PendingTable,
-    past: &mut PastTable,
-    snapshots: &mut Snapshots,
-    copies: &CopyTable,
-    copied: &Copied,
-    journal: &mut [u8],
-    path: &[u8],
-    desk: Desk,
-    bytes: &[u8; lines::hex::ROOM],
-    count: usize,
-) -> Desk {
-    let h = desk.heads;
-    let used = desk.place;
-    let whole = &bytes[..];
-    let n = paths::within(count, whole);
-    let message = &whole[..n];
-    let done = exchange::hearing::hear(
-        disk, dated, pending, past, snapshots, copies, copied, h, journal, used, message,
-    );
-    let answer = done.answer;
-    let Answer::Gap(_) = answer else {
-        return settled(rt, path, journal, desk, done);
-    };
-    let to = curr_of(message);
-    let mut request = [0u8; REQUEST];
-    let asked = exchange::asking::ask(
-        disk,
-        dated,
-        pending,
-        past,
-        snapshots,
-        copies,
-        copied,
-        h,
-        to,
-        &mut request,
-    );
-    let k = terminal::say::written(asked, &request);
-    let said = terminal::say::bytes(rt, answer, &request[..k]);
-    desk.after(said)
-}
-
-// What a cut leads to: a restart from the first bytes, or a refusal that was given or not.
-#[derive(Drop)]
-enum Cut {
-    To(usize),
-    Refused(bool),
-}
-
-// Only a journal in memory is cut, to no more bytes than it has.
-fn cut_to(rt: &HostRuntime, desk: &Desk, to: usize) -> Cut {
-    let used = desk.place;
-    if desk.file.is_some() {
-        let said = terminal::say::text(rt, b"? cut is for a journal in memory\n");
-        return Cut::Refused(said);
-    }
-    if used.at < to {
-        let said = say::refused_beyond(rt, used.at as u64);
-        return Cut::Refused(said);
-    }
-    Cut::To(to)
-}
-
-// A store that was started anew is answered.
-fn renewed(rt: &HostRuntime, started: Started, file: Option<File>) -> Desk {
-    let heads = started.heads;
-    let place = started.place;
-    let answer = started.answer;
-    let given = terminal::say::answer(rt, answer);
-    Desk {
-        heads,
-        place,
-        file,
-        going: given,
-        served: given,
-    }
-}
-
-// An empty store. The journal's file is kept, as JOURNAL.old.
-fn fresh(
-    rt: &HostRuntime,
-    disk: &mut Disk,
-    dated: &mut Disk,
-    pending: &mut PendingTable,
-    past: &mut PastTable,
-    snapshots: &mut Snapshots,
-    copies: &mut CopyTable,
-    copied: &mut Copied,
-    path: &[u8],
-    desk: Desk,
-) -> Desk {
-    let renewal = file::renew(rt, path, desk.file.as_ref());
-    match renewal {
-        Renewal::File(next) => {
-            let started = restart::fresh(disk, dated, pending, past, snapshots, copies, copied);
-            renewed(rt, started, next)
+impl<'a> Keeper<'a> {
+    pub fn new(path: &'a [u8], file: Option<File>) -> Keeper<'a> {
+        Keeper {
+            store: Store::empty(),
+            journal: [0; 65536],
+            place: Place { at: 0 },
+            path,
+            file,
         }
-        Renewal::Barred => {
-            let said = terminal::say::refused(rt, path, b".old is in the way");
-            desk.after(said)
+    }
+}
+
+impl Keeper<'_> {
+    // Commit, gossip and flush. No other call comes here.
+    fn change(&mut self, call: Call, listed: &Listed) -> ChangedAnew {
+        let store = &mut self.store;
+        let journal = &mut self.journal[..room::MOST];
+        let used = self.place;
+        match call {
+            Call::Commit(t, count) => {
+                let n = entries(count, &listed.firsts);
+                let m = entries(count, &listed.seconds);
+                committing::commit_anew(
+                    store,
+                    journal,
+                    used,
+                    t,
+                    &listed.firsts[..n],
+                    &listed.seconds[..m],
+                )
+            }
+            Call::Gossip(prev, curr, count) => {
+                let n = entries(count, &listed.firsts);
+                gossiping::gossip_anew(store, journal, used, prev, curr, &listed.firsts[..n])
+            }
+            Call::Flush(page) => flushing::flush_anew(store, journal, used, page),
+            _ => ChangedAnew {
+                answer: Answer::Nothing(0),
+                place: used,
+            },
         }
-        Renewal::Linked => {
-            let said = terminal::say::refused(
+    }
+
+    // A change that was made is answered once its record is in the file.
+    fn settle(&mut self, rt: &HostRuntime, done: ChangedAnew) -> Result<(), Stop> {
+        let old = self.place.at;
+        let new = done.place.at;
+        if done.answer.is_done() {
+            let file = self.file.as_ref();
+            given(file::is_saved(rt, self.path, file, &self.journal, old, new))?;
+        }
+        let said = terminal::say::answer(rt, done.answer);
+        if self.file.is_some() {
+            room::tell(rt, self.path, old, new);
+        }
+        self.place = done.place;
+        given(said)
+    }
+
+    // What can be read: the horizon, the last commit, the known snapshots.
+    fn is_known_shown(&self, rt: &HostRuntime) -> bool {
+        match reads::known_anew(&self.store) {
+            Some(known) => terminal::say::known(
+                rt,
+                Answer::Done(0),
+                known.horizon,
+                known.last,
+                known.snapshots,
+            ),
+            None => terminal::say::known(rt, Answer::Damaged, 0, 0, &[]),
+        }
+    }
+
+    fn is_standing_shown(&self, rt: &HostRuntime) -> bool {
+        match reads::standing_anew(&self.store) {
+            Some(figures) => say::standing(rt, Answer::Done(0), figures),
+            None => say::standing(rt, Answer::Damaged, NO_FIGURES),
+        }
+    }
+
+    // The answer, and behind it the request from the horizon to a stamp. A message that starts beyond the horizon is answered so too.
+    fn is_asked(&self, rt: &HostRuntime, answer: Option<Answer>, to: u64) -> bool {
+        let mut request = [0u8; REQUEST];
+        let asked = asking::ask_anew(&self.store, to, &mut request);
+        let n = terminal::say::written(asked, &request);
+        terminal::say::bytes(rt, answer.unwrap_or(asked), &request[..n])
+    }
+
+    // The three reads, ask, known, and standing.
+    fn is_shown(&self, rt: &HostRuntime, call: Call) -> bool {
+        let store = &self.store;
+        let mut words = [0u64; 16];
+        match call {
+            Call::Read(time, page) => {
+                let answer = reads::snapshot_read_anew(store, time, page, &mut words);
+                say::page(rt, answer, &words)
+            }
+            Call::Clock(tick, page) => {
+                let answer = reads::clock_read_anew(store, tick, page, &mut words);
+                say::page(rt, answer, &words)
+            }
+            Call::Now(page) => {
+                let answer = reads::current_read_anew(store, page, &mut words);
+                say::page(rt, answer, &words)
+            }
+            Call::Ask(to) => self.is_asked(rt, None, to),
+            Call::Known => self.is_known_shown(rt),
+            _ => self.is_standing_shown(rt),
+        }
+    }
+
+    // A message that a coordinator wrote.
+    fn hear(&mut self, rt: &HostRuntime, message: &[u8]) -> Result<(), Stop> {
+        let journal = &mut self.journal[..room::MOST];
+        let done = hearing::hear_anew(&mut self.store, journal, self.place, message);
+        if let Answer::Gap(_) = done.answer {
+            return given(self.is_asked(rt, Some(done.answer), curr_of(message)));
+        }
+        self.settle(rt, done)
+    }
+
+    // A store that was started anew is answered.
+    fn renew(&mut self, rt: &HostRuntime, started: StartedAnew) -> Result<(), Stop> {
+        self.place = started.place;
+        given(terminal::say::answer(rt, started.answer))
+    }
+
+    // An empty store. The journal's file is kept, as JOURNAL.old.
+    fn fresh(&mut self, rt: &HostRuntime) -> Result<(), Stop> {
+        let path = self.path;
+        match file::renew(rt, path, self.file.as_ref()) {
+            Ok(next) => {
+                self.file = next;
+                let started = restart::fresh_anew(&mut self.store);
+                self.renew(rt, started)
+            }
+            Err(NotRenewed::Barred) => given(terminal::say::refused(rt, path, b".old is in the way")),
+            Err(NotRenewed::Linked) => given(terminal::say::refused(
                 rt,
                 path,
                 b" is a link; fresh works under the file's own name",
-            );
-            desk.after(said)
+            )),
+            Err(NotRenewed::Failed) => Err(Stop::Failed),
         }
-        Renewal::Failed => desk.after(false),
+    }
+
+    // A store from the first bytes of a journal. Only one in memory is cut, to no more bytes than it has.
+    fn cut(&mut self, rt: &HostRuntime, to: usize) -> Result<(), Stop> {
+        let used = self.place.at;
+        if self.file.is_some() {
+            return given(terminal::say::text(
+                rt,
+                b"? cut is for a journal in memory\n",
+            ));
+        }
+        if used < to {
+            return given(say::refused_beyond(rt, used as u64));
+        }
+        let n = paths::within(to, &self.journal);
+        let started = restart::restart_anew(&mut self.store, &self.journal[..n]);
+        self.renew(rt, started)
     }
 }
 
-// A store from the first bytes of a journal in memory.
-fn cut_back(
-    rt: &HostRuntime,
-    disk: &mut Disk,
-    dated: &mut Disk,
-    pending: &mut PendingTable,
-    past: &mut PastTable,
-    snapshots: &mut Snapshots,
-    copies: &mut CopyTable,
-    copied: &mut Copied,
-    journal: &[u8],
-    desk: Desk,
-    count: usize,
-) -> Desk {
-    let cut = cut_to(rt, &desk, count);
-    match cut {
-        Cut::To(to) => {
-            let n = paths::within(to, journal);
-            let bytes = &journal[..n];
-            let started = restart::restart(
-                disk, dated, pending, past, snapshots, copies, copied, bytes,
-            );
-            renewed(rt, started, desk.file)
-        }
-        Cut::Refused(said) => {
-            let going = said;
-            desk.after(going)
-        }
-    }
-}
-
-// The line of this number. One without a call is passed over.
-pub fn served(
-    rt: &HostRuntime,
-    disk: &mut Disk,
-    dated: &mut Disk,
-    pending: &mut PendingTable,
-    past: &mut PastTable,
-    snapshots: &mut Snapshots,
-    copies: &mut CopyTable,
-    copied: &mut Copied,
-    journal: &mut [u8],
-    path: &[u8],
-    desk: Desk,
-    line: &[u8],
-    number: u64,
-) -> Desk {
-    let mut firsts = [0u64; 17];
-    let mut seconds = [0u64; 17];
-    let call = lines::read_line(line, &mut firsts, &mut seconds);
-    match call {
-        Call::Blank => desk,
-        Call::Help(topic) => {
-            let said = help::print(rt, topic);
-            desk.after(said)
-        }
-        Call::Quit => desk.ended(),
-        Call::Wrong(fault, column) => {
-            let f = fault;
-            let c = column;
-            let said = terminal::say::wrong(rt, f, number, c);
-            desk.after(said)
-        }
-        Call::Fresh => fresh(
-            rt, disk, dated, pending, past, snapshots, copies, copied, path, desk,
-        ),
-        Call::Cut(count) => {
-            let to = count as usize;
-            cut_back(
-                rt, disk, dated, pending, past, snapshots, copies, copied, journal, desk, to,
-            )
-        }
-        Call::Hear(begin, end) => {
-            let from = begin;
-            let to = end;
-            let mut message = [0u8; lines::hex::ROOM];
-            let count = hex::bytes_in(line, from, to, &mut message);
-            heard(
-                rt, disk, dated, pending, past, snapshots, copies, copied, journal, path, desk,
-                &message, count,
-            )
-        }
-        Call::Read(_, _)
-        | Call::Clock(_, _)
-        | Call::Now(_)
-        | Call::Ask(_)
-        | Call::Known
-        | Call::Standing => {
-            let said = show(
-                rt, disk, dated, pending, past, snapshots, copies, copied, desk.heads, call,
-            );
-            desk.after(said)
-        }
-        Call::Commit(_, _) | Call::Gossip(_, _, _) | Call::Flush(_) => {
-            let done = change(
-                disk, dated, pending, past, snapshots, copies, copied, journal, &desk, call,
-                &firsts, &seconds,
-            );
-            settled(rt, path, journal, desk, done)
+impl Desk for Keeper<'_> {
+    fn serve(&mut self, rt: &HostRuntime, line: &[u8], number: u64) -> Result<(), Stop> {
+        let mut listed = Listed::empty();
+        match lines::read_line(line, &mut listed) {
+            Err(mistake) => given(terminal::say::wrong(rt, mistake, number)),
+            Ok(Call::Blank) => Ok(()),
+            Ok(Call::Help(topic)) => given(help::print(rt, topic)),
+            Ok(Call::Quit) => Err(Stop::Done),
+            Ok(Call::Fresh) => self.fresh(rt),
+            Ok(Call::Cut(to)) => self.cut(rt, to as usize),
+            Ok(Call::Hear(from, to)) => {
+                let mut message = [0u8; lines::hex::ROOM];
+                let count = hex::bytes_in(line, from, to, &mut message);
+                let n = paths::within(count, &message);
+                self.hear(rt, &message[..n])
+            }
+            Ok(
+                call @ (Call::Read(_, _)
+                | Call::Clock(_, _)
+                | Call::Now(_)
+                | Call::Ask(_)
+                | Call::Known
+                | Call::Standing),
+            ) => given(self.is_shown(rt, call)),
+            Ok(call @ (Call::Commit(_, _) | Call::Gossip(_, _, _) | Call::Flush(_))) => {
+                let done = self.change(call, &listed);
+                self.settle(rt, done)
+            }
         }
     }
 }

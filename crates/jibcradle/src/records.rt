@@ -1,11 +1,10 @@
 // A journal listed, a line for each record, and how its walk ends. The file is only read.
-ghost use Rattle.io.specs.Counts.{IsPrefixLen};
-
 use crate::say;
-use files::file::Whole;
 use files::{file, fit, names, paths, trouble};
 use model::Answer;
 use std::fs::File;
+use tables::Store;
+use terminal::say::line;
 
 // No journal has so many records.
 const MOST: u64 = 65536;
@@ -13,27 +12,24 @@ const MOST: u64 = 65536;
 // The records from the first one on up to a place. False where standard output takes no more.
 fn are_said(rt: &HostRuntime, journal: &[u8], end: usize) -> bool {
     let mut at: usize = 1;
-    let mut left = MOST;
-    while 0 < left {
-        left -= 1;
+    for _ in 0..MOST {
         if end <= at {
             return true;
         }
-        let next = listing::behind(journal, at);
-        if next <= at {
+        let Some(listed) = listing::record_at(journal, at) else {
             return true;
-        }
-        if !say::record(rt, journal, at) {
+        };
+        if !line(rt, &listed.line) {
             return false;
         }
-        at = next;
+        at = listed.behind;
     }
     true
 }
 
 // Where and why the walk ends: at the end, at a record that isn't all there, or at one that is refused.
 fn is_ended(rt: &HostRuntime, answer: Answer, place: usize, length: usize) -> bool {
-    if answer.code() != 0 {
+    if !answer.is_done() {
         return say::refusal(rt, answer);
     }
     if place < length {
@@ -53,37 +49,21 @@ fn end_of(answer: Answer, place: usize) -> usize {
 
 // What a restart from the bytes answers decides how far the records go.
 fn are_listed(rt: &HostRuntime, journal: &[u8]) -> bool {
-    let mut disk = [0u64; 512];
-    let mut dated = [0u64; 512];
-    let mut pending = [[0u64; 4]; 128];
-    let mut past = [[0u64; 4]; 256];
-    let mut snapshots = [0u64; 64];
-    let mut copies = [[0u64; 2]; 128];
-    let mut copied = [0u64; 2048];
-    let started = restart::restart(
-        &mut disk,
-        &mut dated,
-        &mut pending,
-        &mut past,
-        &mut snapshots,
-        &mut copies,
-        &mut copied,
-        journal,
-    );
+    let mut store = Store::empty();
+    let started = restart::restart_anew(&mut store, journal);
     let answer = started.answer;
-    let place = started.place;
-    are_said(rt, journal, end_of(answer, place.at)) && is_ended(rt, answer, place.at, journal.len())
+    let place = started.place.at;
+    are_said(rt, journal, end_of(answer, place)) && is_ended(rt, answer, place, journal.len())
 }
 
 fn is_read(rt: &HostRuntime, path: &[u8], opened: &File) -> bool {
     let mut journal = io::large_buffer();
-    let whole = file::read(rt, path, Some(opened), &mut journal);
-    match whole {
-        Whole::Failed => false,
-        Whole::Bytes(count) => {
+    match file::read(rt, path, Some(opened), &mut journal) {
+        Some(count) => {
             let n = paths::within(count, &journal);
             are_listed(rt, &journal[..n])
         }
+        None => false,
     }
 }
 

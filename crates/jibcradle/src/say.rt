@@ -1,21 +1,17 @@
-// What this command writes besides what both do: pages, figures, records. An answer is false where standard output takes no more, after
+// What this command writes besides what both do: pages, figures, how a journal's walk ends. An answer is false where standard output takes no more, after
 // a word on standard error.
 use model::{Answer, Figures};
 use std::io::IsTerminal;
-use terminal::say::{digits, first, text};
+use terminal::say::{digits, line, text};
 
 pub fn page(rt: &HostRuntime, a: Answer, words: &[u64]) -> bool {
-    let mut line = [0u8; answers::ROOM];
-    let n = answers::page_line(a, words, &mut line);
-    first(rt, &line, n)
+    line(rt, &answers::page_line(a, words))
 }
 
 // On a terminal the figures' names stand under them.
 pub fn standing(rt: &HostRuntime, a: Answer, figures: Figures) -> bool {
-    let mut line = [0u8; answers::ROOM];
-    let n = answers::standing_line(a, figures, &mut line);
-    let said = first(rt, &line, n);
-    if said && a.code() == 0 && rt.stdout().is_terminal() {
+    let said = line(rt, &answers::standing_line(a, figures));
+    if said && a.is_done() && rt.stdout().is_terminal() {
         return text(rt, b"# pending, past, snapshots, copies, lag\n");
     }
     said
@@ -25,27 +21,15 @@ pub fn refused_beyond(rt: &HostRuntime, used: u64) -> bool {
     text(rt, b"? the journal has ") && digits(rt, used) && text(rt, b" bytes\n")
 }
 
-// ---- a journal's records, and how its walk ends
-pub fn record(rt: &HostRuntime, journal: &[u8], at: usize) -> bool {
-    let mut line = [0u8; answers::ROOM];
-    let n = listing::line(journal, at, &mut line);
-    first(rt, &line, n)
-}
-
+// ---- how a journal's walk ends
 pub fn end(rt: &HostRuntime, place: u64) -> bool {
-    let mut line = [0u8; answers::ROOM];
-    let n = answers::records::end_line(place, &mut line);
-    first(rt, &line, n)
+    line(rt, &answers::records::end_line(place))
 }
 
 pub fn torn(rt: &HostRuntime, place: u64, bytes: u64) -> bool {
-    let mut line = [0u8; answers::ROOM];
-    let n = answers::records::torn_line(place, bytes, &mut line);
-    first(rt, &line, n)
+    line(rt, &answers::records::torn_line(place, bytes))
 }
 
 pub fn refusal(rt: &HostRuntime, a: Answer) -> bool {
-    let mut line = [0u8; answers::ROOM];
-    let n = answers::records::refusal_line(a, &mut line);
-    first(rt, &line, n)
+    line(rt, &answers::records::refusal_line(a))
 }

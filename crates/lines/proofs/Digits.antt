@@ -1,18 +1,18 @@
 -- A number by its digits: one turn of the reading, and that it never falls.
 use Prim.Native.Nat.{ℕ, ◌+◌, ◌*◌, ◌-◌, ◌^◌, ◌<◌, ◌≤◌}
-use mathlib.Core.Path.{◌≡◌, refl, ap, sym, ◌∙◌}
-use mathlib.Core.Bool.{true, false}
+use mathlib.Core.Path.{◌≡◌, refl, sym, ◌∙◌}
+use mathlib.Core.Bool.{false}
 use mathlib.Core.List.{List, [], ◌∷◌}
 use native.Mathlib.Numerals.{add-one}
 use native.Mathlib.Omega.{arith}
-use lib.ListN.{length, drop, get_or, drop_of_length-le}
+use lib.ListN.{length, drop, get_or}
 use lib.Seq.{drop-cons}
-use borrow.Author.Tests.{lt-ltb, le-ltb}
+use borrow.Author.Tests.{le-ltb}
 use Rattle.lines.specs.Words.{digit, leading}
-use Rattle.lines.specs.Numbers.{decimal, sized, number_at, value_at}
+use Rattle.lines.specs.Numbers.{decimal, sized, number_at}
 use Rattle.model.specs.Lists.{empty_b}
-use Rattle.lines.specs.declared.Fault.TheVariants.{Missing, Digit, Large, Equals}
-use Rattle.lines.specs.declared.numbers.Number.TheVariants as number
+use Rattle.lines.specs.declared.Fault.TheVariants.{Large}
+use Rattle.lines.specs.Mistakes.{wrong}
 
 decimal_grows : (n : ℕ) (bs : List ℕ) → n ≤ decimal n bs
 decimal_grows n [] = omega arith
@@ -22,47 +22,20 @@ module _ (s : List ℕ) (n i : ℕ) (e : decimal n (drop i s) ≡ decimal 0 s) w
   pub digit_turn : i < length s → decimal (n * 10 + (get_or s i 0 - 48)) (drop (i + 1) s) ≡ decimal 0 s
   digit_turn h = sym (rw (add-one, drop-cons s i 0)) ∙ e
 
-  pub digit_large : (column : ℕ) → i < length s → 2 ^ 64 ≤ n * 10 + (get_or s i 0 - 48) → number.Wrong Large column ≡ sized column s
+  pub digit_large : (column : ℕ) → i < length s → 2 ^ 64 ≤ n * 10 + (get_or s i 0 - 48) → wrong Large column ≡ sized column s
   digit_large column h l =
       let g = decimal_grows (n * 10 + (get_or s i 0 - 48)) (drop (i + 1) s) in
       let t = digit_turn h in
       let m : 2 ^ 64 ≤ decimal 0 s = omega arith in
       rw (le-ltb (decimal 0 s) (2 ^ 64) m)
 
-  pub digit_end : (column : ℕ) → length s ≤ i → n < 2 ^ 64 → number.Value n ≡ sized column s
-  digit_end column h l =
-      let t : n ≡ decimal 0 s = sym (rw (drop_of_length-le s h)) ∙ e in
-      let m : decimal 0 s < 2 ^ 64 = omega arith in
-      rw (lt-ltb (decimal 0 s) (2 ^ 64) m) (ap number.Value t)
-
--- ---- what a word says as a number, test by test
+-- ---- a word of digits
 empty_no : (s : List ℕ) → (length s ≡ 0 → ⊥) → empty_b s ≡ false
 empty_no [] h = absurd (h refl)
 empty_no (b ∷ bs) h = refl
 
-empty_yes : (s : List ℕ) → length s ≡ 0 → empty_b s ≡ true
-empty_yes [] h = refl
-empty_yes (b ∷ bs) h = absurd (omega arith)
-
-module _ (column : ℕ) (s : List ℕ) where
-  pub say_missing : length s ≡ 0 → number.Wrong Missing column ≡ number_at column s
-  say_missing h = rw (empty_yes s h)
-
-  module _ (h : length s ≡ 0 → ⊥) where
-    pub say_digit : (n : ℕ) → n ≡ leading digit s → n < length s → number.Wrong Digit (column + n) ≡ number_at column s
-    say_digit n e l =
-        let m : leading digit s < length s = omega arith in
-        rw (empty_no s h, lt-ltb (leading digit s) (length s) m, e)
-
-    pub say_sized : (n : ℕ) → n ≡ leading digit s → length s ≤ n → sized column s ≡ number_at column s
-    say_sized n e l =
-        let m : length s ≤ leading digit s = omega arith in
-        rw (empty_no s h, le-ltb (leading digit s) (length s) m)
-
--- ---- a write
-module _ (key column : ℕ) (s : List ℕ) where
-  pub say_value : key < length s → number_at (column + (key + 1)) (drop (key + 1) s) ≡ value_at key column s
-  say_value h = rw (lt-ltb key (length s) h)
-
-  pub say_equals : length s ≤ key → number.Wrong Equals (column + length s) ≡ value_at key column s
-  say_equals h = rw (le-ltb key (length s) h)
+module _ (column : ℕ) (s : List ℕ) (h : length s ≡ 0 → ⊥) where
+  pub say_sized : (n : ℕ) → n ≡ leading digit s → length s ≤ n → sized column s ≡ number_at column s
+  say_sized n e l =
+      let m : length s ≤ leading digit s = omega arith in
+      rw (empty_no s h, le-ltb (leading digit s) (length s) m)

@@ -3,9 +3,6 @@ pub mod Runs
 pub mod Spans
 pub mod Digits
 pub mod Hexes
-pub mod Same
-pub mod Taking
-pub mod Behind
 pub mod Storing
 pub mod Calling
 pub mod Ordering

@@ -13,8 +13,7 @@ use Rattle.model.specs.Lists.{pick, both, all_b}
 use Rattle.lines.specs.Words.{between, digit, hex_digit, leading}
 use Rattle.lines.specs.Numbers.{decimal, number_at}
 use Rattle.lines.specs.Hex.{hex_at, hex_value, hex_pairs, hex_bytes}
-use Rattle.lines.specs.declared.numbers.Number.TheVariants as number
-use Rattle.lines.specs.declared.numbers.Hexed.TheVariants as hexed
+use Rattle.std.specs.Prelude.{Ok}
 use Rattle.lines.proofs.Cases.{by_test}
 use Rattle.lines.proofs.Digits.{say_sized}
 use Rattle.lines.proofs.Hexes.{say_part}
@@ -65,14 +64,14 @@ digits_some k n h =
     (λ e. let z : ◌≡◌ {A = ℕ} 1 0 = rw e at h in omega arith)
     (λ e. let z = simp (e, length-append) at h in omega arith)
 
-pub reads_back : (column k n : ℕ) → 0 < k → n < 10 ^ k → n < 2 ^ 64 → number_at column (digits_of k n) ≡ number.Value n
+pub reads_back : (column k n : ℕ) → 0 < k → n < 10 ^ k → n < 2 ^ 64 → number_at column (digits_of k n) ≡ Ok n
 reads_back column zero n z h l = absurd (not-suc-le-zero z)
 reads_back column (suc k) n z h l =
     let a = sym (all_leading (digits_of (suc k) n) (digits_all (suc k) n)) in
     let v = digits_value (suc k) n h in
     let m : decimal 0 (digits_of (suc k) n) < 2 ^ 64 = omega arith in
     sym (say_sized column (digits_of (suc k) n) (digits_some k n) (length (digits_of (suc k) n)) a (omega arith))
-    ∙ rw (lt-ltb (decimal 0 (digits_of (suc k) n)) (2 ^ 64) m) (ap number.Value v)
+    ∙ rw (lt-ltb (decimal 0 (digits_of (suc k) n)) (2 ^ 64) m) (ap Ok v)
 
 -- ---- the hex digits of bytes, in upper case or in lower
 abbrev pub hex_of : Bool → ℕ → ℕ
@@ -153,11 +152,11 @@ module _ (upper : Bool) where
       (λ e. absurd (true≢false (sym h ∙ rw e)))
 
   pub hex_reads_back : (column : ℕ) (bs : List ℕ) → all_b byte_b bs ≡ true → length bs ≤ 512
-      → (hex_at column (hex_digits upper bs) ≡ hexed.Part (column - 1) (column - 1 + 2 * length bs)) × (hex_bytes (hex_digits upper bs) ≡ bs)
+      → (hex_at column (hex_digits upper bs) ≡ Ok (record { from = column - 1; to = column - 1 + 2 * length bs })) × (hex_bytes (hex_digits upper bs) ≡ bs)
   unfolding hex_bytes
   hex_reads_back column bs h l =
       let n = hex_length bs in
       let a = sym (hex_leading bs h) in (
-        sym (say_part column (hex_digits upper bs) (length (hex_digits upper bs)) a (omega arith) (omega arith) (λ e. omega arith)) ∙ rw n,
+        sym (say_part column (hex_digits upper bs) (omega arith) (omega arith) (λ e. omega arith)) ∙ rw n,
         rw (hex_pairs_lem bs h) (take_all 512 bs l),
       )

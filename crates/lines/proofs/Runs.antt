@@ -1,25 +1,19 @@
--- A run of bytes at the beginning of a list: one turn of its count, and what stands behind it.
-use Prim.Native.Nat.{ℕ, ◌+◌, ◌<◌, ◌≤◌}
-use mathlib.Core.Path.{◌≡◌}
-use mathlib.Core.Bool.{Bool, true, false}
+-- A run of bytes at the beginning of a list: as std counts it, and that it stands within the list.
+use Prim.Native.Nat.{ℕ, ◌+◌, ◌≤◌}
+use mathlib.Core.Path.{◌≡◌, refl}
+use mathlib.Core.Bool.{Bool}
 use mathlib.Core.List.{List, [], ◌∷◌}
-use native.Mathlib.Numerals.{add-one}
 use native.Mathlib.Omega.{arith}
-use native.Mathlib.Nat.{add-zero}
-use lib.ListN.{length, drop, get_or, length-drop, drop_of_length-le}
-use lib.Seq.{drop-cons}
+use lib.ListN.{length, drop, length-drop}
+use Rattle.std.specs.List.{prefix_len}
 use Rattle.lines.specs.Words.{leading}
 use Rattle.lines.proofs.Cases.{by_test}
 
-module _ (f : ℕ → Bool) (s : List ℕ) (i : ℕ) where
-  pub run_turn : i < length s → f (get_or s i 0) ≡ true → i + leading f (drop i s) ≡ i + 1 + leading f (drop (i + 1) s)
-  run_turn h e = rw (add-one, drop-cons s i 0, e) (omega arith)
-
-  pub run_stop : i < length s → f (get_or s i 0) ≡ false → i + leading f (drop i s) ≡ i
-  run_stop h e = rw (drop-cons s i 0, e, add-zero)
-
-  pub run_end : length s ≤ i → i + leading f (drop i s) ≡ i
-  run_end h = rw (drop_of_length-le s h, add-zero)
+pub run_prefix : (f : ℕ → Bool) (s : List ℕ) → prefix_len f s ≡ leading f s
+run_prefix f [] = refl
+run_prefix f (b ∷ bs) =
+    let ih = run_prefix f bs in
+    by_test (f b) (λ e. rw e (omega arith)) (λ e. rw e)
 
 pub run_within : (f : ℕ → Bool) (s : List ℕ) → leading f s ≤ length s
 run_within f [] = omega arith

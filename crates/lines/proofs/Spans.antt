@@ -11,12 +11,13 @@ use lib.ListN.{length, take, drop, length-drop}
 use lib.Seq.{take_all, drop-drop}
 use borrow.Author.Tests.{eq-eqb, ne_eqb}
 use Rattle.lines.specs.Words.{blank, Word, word, led, words, words_from, leading, of_class}
-use Rattle.lines.specs.Promises.{Next}
+use Rattle.lines.specs.Promises.{bytes_of, Stands}
 use Rattle.lines.specs.declared.words.Class.TheVariants.{Gap, Ink}
+use Rattle.lines.specs.declared.words.Span.{Span}
 use Rattle.lines.proofs.Cases.{by_test}
 use Rattle.lines.proofs.Runs.{run_within}
 
-pub rest_of : (s : List ℕ) (at : ℕ) → take (length s - at) (drop at s) ≡ drop at s
+rest_of : (s : List ℕ) (at : ℕ) → take (length s - at) (drop at s) ≡ drop at s
 rest_of s at = take_all (length s - at) (drop at s) (simp length-drop (omega arith))
 
 -- blanks before the words
@@ -91,10 +92,23 @@ gap_stops (b ∷ bs) h =
 gap_ends : (bs : List ℕ) (gap : ℕ) → gap ≡ leading (of_class Gap) bs → leading (of_class Ink) (drop gap bs) ≡ 0 → drop gap bs ≡ []
 gap_ends bs gap g h = rw g (gap_stops bs (rw g at h))
 
+-- where the blanks from `at` on end, and the bytes behind them: none, or the next word
+pub record Searched (text : List ℕ) (at : ℕ) (s : Span) : Type 0 where
+  pub onward : at ≤ s.from
+  pub straight : s.from ≤ s.to
+  pub within : s.to ≤ length text
+  pub none : s.from ≡ s.to → words_from text at ≡ []
+  pub some : s.from < s.to → words_from text at ≡ word (s.from + 1) (bytes_of text s) ∷ words_from text s.to
+
+pub stands : {text : List ℕ} {at : ℕ} {s : Span} → Searched text at s → (s.from ≡ s.to → ⊥) → Stands text at s
+stands n h =
+    let l : _ < _ = omega (arith, n.straight) in
+    record { onward = n.onward; some = l; within = n.within; words = n.some l }
+
 -- the search for the next word: the blanks from `at` on, then the word
 pub next_found : (text : List ℕ) (at : ℕ) (gap ink : ℕ) → at ≤ length text
     → gap ≡ leading (of_class Gap) (drop at text) → ink ≡ leading (of_class Ink) (drop (at + gap) text)
-    → Next text at (record { from = at + gap; to = at + gap + ink })
+    → Searched text at (record { from = at + gap; to = at + gap + ink })
 next_found text at gap ink h g i =
     let l : gap ≤ length text - at = rw (g, ← length-drop) (run_within (of_class Gap) (drop at text)) in
     let m : ink ≤ length text - (at + gap) = rw (i, ← length-drop) (run_within (of_class Ink) (drop (at + gap) text)) in
@@ -114,3 +128,9 @@ next_found text at gap ink h g i =
           let q = rw (← i, drop-drop ink (at + gap) text, suc-add) at (word_run (suc (at + gap)) (drop (at + gap) text) p) in
           rw (w, add-one) (skipped ∙ q);
     }
+
+-- the same of the rest of a text as code cuts it
+pub run_found : (text : List ℕ) (at gap : ℕ) → at ≤ length text → gap ≡ leading (of_class Gap) (take (length text - at) (drop at text))
+    → (ink : ℕ) → ink ≡ leading (of_class Ink) (take (length text - (at + gap)) (drop (at + gap) text)) → Searched text at (record { from = at + gap; to = at + gap + ink })
+run_found text at gap h g ink i =
+    next_found text at gap ink h (g ∙ ap (leading (of_class Gap)) (rest_of text at)) (i ∙ ap (leading (of_class Ink)) (rest_of text (at + gap)))

@@ -1,18 +1,19 @@
 -- "The command", hex words: an even number of hex digits, at most 1024, of either case. The first fault of a word is told with its column.
-use Rattle.std.specs.Prelude.{ℕ, ◌+◌, ◌*◌, ◌-◌, ◌%◌, ◌≤◌, ◌≡◌, List, [], ◌∷◌, eqb, ltb, length, take, drop}
+use Rattle.std.specs.Prelude.{ℕ, ◌+◌, ◌*◌, ◌-◌, ◌%◌, ◌≤◌, ◌≡◌, List, [], ◌∷◌, Result, Ok, eqb, ltb, length, take, drop}
 use Rattle.model.specs.Lists.{pick}
 use Rattle.lines.specs.Words.{between, digit, hex_digit, leading}
+use Rattle.lines.specs.Mistakes.{wrong}
 use Rattle.lines.specs.declared.Fault.TheVariants.{Hex, Long, Odd}
-use Rattle.lines.specs.declared.numbers.Hexed.{Hexed}
-use Rattle.lines.specs.declared.numbers.Hexed.TheVariants as hexed
+use Rattle.lines.specs.declared.Mistake.{Mistake}
+use Rattle.lines.specs.declared.words.Span.{Span}
 
 -- the bytes from this column on, as a hex word: where it begins and ends in the line
-abbrev pub hex_at : ℕ → List ℕ → Hexed
+abbrev pub hex_at : ℕ → List ℕ → Result Span Mistake
 hex_at column bytes =
-    pick (ltb (leading hex_digit bytes) (length bytes)) (hexed.Wrong Hex (column + leading hex_digit bytes))
-    (pick (ltb 1024 (length bytes)) (hexed.Wrong Long column)
-    (pick (eqb (length bytes % 2) 1) (hexed.Wrong Odd column)
-    (hexed.Part (column - 1) (column - 1 + length bytes))))
+    pick (ltb (leading hex_digit bytes) (length bytes)) (wrong Hex (column + leading hex_digit bytes))
+    (pick (ltb 1024 (length bytes)) (wrong Long column)
+    (pick (eqb (length bytes % 2) 1) (wrong Odd column)
+    (Ok (record { from = column - 1; to = column - 1 + length bytes }))))
 
 -- the line's part from behind its first `from` bytes up to its first `to` is the word
 pub record Part (line : List ℕ) (from to : ℕ) (word : List ℕ) : Type 0 where

@@ -1,40 +1,56 @@
 -- What the parts of the reader promise each other: where the next word is, what is taken from the front of the words, what a list leaves.
-use Rattle.std.specs.Prelude.{ℕ, ◌+◌, ◌-◌, ◌≤◌, ◌<◌, ◌≡◌, List, [], ◌∷◌, map, length, take, drop}
-use Rattle.lines.specs.Words.{word, words_from}
-use Rattle.lines.specs.Behind.{tail, first_number, first_two, first_hex}
-use Rattle.lines.specs.Lines.{Items, kept, counted, Begins}
+use Rattle.std.specs.Prelude.{ℕ, ◌+◌, ◌-◌, ◌≤◌, ◌<◌, ◌≡◌, List, [], ◌∷◌, Option, Result, MatchOption, MatchResult, map, length, take, drop}
+use Rattle.lines.specs.Words.{Word, word, words_from}
+use Rattle.lines.specs.Behind.{tail}
+use Rattle.lines.specs.Lines.{kept, counted, Begins}
+use Rattle.lines.specs.declared.Fault.TheVariants.{Missing}
+use Rattle.lines.specs.declared.Mistake.{Mistake}
 use Rattle.lines.specs.declared.words.Span.{Span}
-use Rattle.lines.specs.declared.lists.Listed.{Listed}
-use Rattle.lines.specs.declared.takes.Taken.{Taken}
-use Rattle.lines.specs.declared.takes.TakenPair.{TakenPair}
-use Rattle.lines.specs.declared.takes.TakenHex.{TakenHex}
+use Rattle.lines.specs.declared.words.Reader.{Reader}
 
--- what a search for the next word from `at` on tells: an empty span where there is none
-pub record Next (text : List ℕ) (at : ℕ) (s : Span) : Type 0 where
+-- the bytes of a span
+abbrev pub bytes_of : List ℕ → Span → List ℕ
+bytes_of text s = take (s.to - s.from) (drop s.from text)
+
+-- the next word from `at` on
+pub record Stands (text : List ℕ) (at : ℕ) (s : Span) : Type 0 where
   pub onward : at ≤ s.from
-  pub straight : s.from ≤ s.to
+  pub some : s.from < s.to
   pub within : s.to ≤ length text
-  pub none : s.from ≡ s.to → words_from text at ≡ []
-  pub some : s.from < s.to → words_from text at ≡ word (s.from + 1) (take (s.to - s.from) (drop s.from text)) ∷ words_from text s.to
+  pub words : words_from text at ≡ word (s.from + 1) (bytes_of text s) ∷ words_from text s.to
+
+-- what a reader has before it, and the column behind its text
+abbrev pub ahead : Reader → List Word
+ahead r = words_from r.text.now r.at
+
+abbrev pub end_of : Reader → ℕ
+end_of r = length r.text.now + 1
+
+-- a reader finds the next word, and stands behind it
+pub record Found (r r' : Reader) (s : Span) : Type 0 where
+  pub stands : Stands r.text.now r.at s
+  pub text : r'.text.now ≡ r.text.now
+  pub behind : r'.at ≡ s.to
+
+-- there is none
+pub record Ended (r r' : Reader) : Type 0 where
+  pub none : ahead r ≡ []
+  pub text : r'.text.now ≡ r.text.now
+  pub behind : r'.at ≡ r.at
+
+abbrev pub Next : Reader → Reader → Option Span → Type 0
+Next r r' o = MatchOption o (Ended r r') (λ s. Found r r' s)
+
+abbrev pub Needs : Reader → Reader → Result Span Mistake → Type 0
+Needs r r' o = MatchResult o (λ s. Found r r' s) (λ m. Ended r r' × (m ≡ record { fault = Missing; column = end_of r }))
+
+-- a reader passes the next word
+pub record Passed (r r' : Reader) : Type 0 where
+  pub text : r'.text.now ≡ r.text.now
+  pub behind : ahead r' ≡ tail (ahead r)
 
 -- what is told of a list, and what stands in the tables
-pub record Listing (r : Items) (l : Listed) (firsts seconds : List ℕ) : Type 0 where
+pub record Listing (r : Result (List (ℕ × ℕ)) Mistake) (l : Result ℕ Mistake) (firsts seconds : List ℕ) : Type 0 where
   pub told : l ≡ counted r
-  pub first : Begins firsts (map (λ p. p.first) (kept r))
-  pub second : Begins seconds (map (λ p. p.second) (kept r))
-
--- one number, or two, or a hex word, taken from the words from `at` on
-pub record Takes (text : List ℕ) (at : ℕ) (t : Taken) : Type 0 where
-  pub found : t.number ≡ first_number (length text + 1) (words_from text at)
-  pub rest : words_from text t.next ≡ tail (words_from text at)
-  pub within : t.next ≤ length text
-
-pub record TakesTwo (text : List ℕ) (at : ℕ) (t : TakenPair) : Type 0 where
-  pub found : t.item ≡ first_two (length text + 1) (words_from text at)
-  pub rest : words_from text t.next ≡ tail (tail (words_from text at))
-  pub within : t.next ≤ length text
-
-pub record TakesHex (text : List ℕ) (at : ℕ) (t : TakenHex) : Type 0 where
-  pub found : t.hex ≡ first_hex (length text + 1) (words_from text at)
-  pub rest : words_from text t.next ≡ tail (words_from text at)
-  pub within : t.next ≤ length text
+  pub first : Begins firsts (map (λ p. p.0) (kept r))
+  pub second : Begins seconds (map (λ p. p.1) (kept r))

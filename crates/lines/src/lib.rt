@@ -11,14 +11,14 @@ mod takes;
 mod titles;
 mod words;
 
-ghost use Rattle.std.specs.Prelude.{◌≡◌, length};
+ghost use Rattle.std.specs.Prelude.{◌≡◌};
 ghost use Rattle.lines.specs.Lines.{of_text, Reading, ReadLine};
 
-use crate::words::Class;
+use crate::words::{Class, Reader};
 
-// What is wrong with a line that is no call: no such call, a word is missing, a byte that is no digit, a number of 2^64 or more,
+// What is wrong with a line that is no call, in the order of the answers' words for it: no such call, a word is missing, a byte that is no digit, a number of 2^64 or more,
 // a write without its `=`, a word too many, a byte that is no hex digit, more than 1024 hex digits, an odd number of them.
-#[derive(Clone, Copy)]
+#[derive(Clone, Copy, Debug, PartialEq, Eq)]
 pub enum Fault {
     Unknown,
     Missing,
@@ -31,6 +31,24 @@ pub enum Fault {
     Odd,
 }
 
+// The first fault of a line that is no call, and the column of that, counted from 1.
+#[derive(Clone, Copy, Debug, PartialEq, Eq)]
+pub struct Mistake {
+    pub fault: Fault,
+    pub column: usize,
+}
+
+impl Fault {
+    fn at(self, column: usize) -> Mistake
+        ensures { result ≡ record { fault = self; column = column } }
+    {
+        Mistake {
+            fault: self,
+            column,
+        }
+    }
+}
+
 // What help is about: the calls, the codes of the answers, the figures of standing.
 #[derive(Clone, Copy)]
 pub enum Topic {
@@ -41,7 +59,6 @@ pub enum Topic {
 
 // A call with its numbers. Commit has its stamp and how many writes were kept, Gossip its two stamps and how many snapshots were kept,
 // Hear where its hex word begins and ends in the line.
-// A line that is no call is Wrong, with its first fault and the column of that, counted from 1.
 #[derive(Clone, Copy)]
 pub enum Call {
     Blank,
@@ -59,37 +76,45 @@ pub enum Call {
     Cut(u64),
     Ask(u64),
     Hear(usize, usize),
-    Wrong(Fault, usize),
 }
 
-// A table of 17 numbers has 17: that is known of a table by value only.
-fn seventeen(table: [u64; 17])
-    ensures { length table ≡ 17 }
-{}
+// The numbers of a line's list, at the front: objects and values of a commit, stamps of a gossip.
+// Kept: two arrays, since objects and values are lent on as two slices; and the call tells how many they are, as `parsed` of specs/Lines.antt does.
+#[derive(Drop)]
+pub struct Listed {
+    pub firsts: [u64; 17],
+    pub seconds: [u64; 17],
+}
+
+impl Listed {
+    // No number yet.
+    pub fn empty() -> Listed {
+        Listed {
+            firsts: [0; 17],
+            seconds: [0; 17],
+        }
+    }
+}
 
 // The call that a line is, its comment cut off.
-fn read_text(text: &[u8], firsts: &mut [u64; 17], seconds: &mut [u64; 17]) -> Call
-    requires { (length firsts.old ≡ 17) × (length seconds.old ≡ 17) }
-    ensures { Reading (of_text text.now) result firsts.new seconds.new }
+fn read_text(text: &[u8], listed: &mut Listed) -> Result<Call, Mistake>
+    ensures { Reading (of_text text.now) result listed.new.firsts listed.new.seconds }
 {
-    let span = words::next_word(text, 0);
-    let from = span.from;
-    let to = span.to;
-    if from == to {
-        return Call::Blank;
+    let mut words = Reader::new(text);
+    let Some(span) = words.next_word() else {
+        return Ok(Call::Blank);
+    };
+    match names::name_of(&text[span.from..span.to]) {
+        Some(name) => calls::read_call(&mut words, name, listed),
+        None => Err(Fault::Unknown.at(span.from + 1)),
     }
-    let word = &text[from..to];
-    let name = names::name_of(word);
-    calls::read_call(text, to, name, from + 1, firsts, seconds)
 }
 
-// The call that a line is. The numbers of its list go to `firsts` and `seconds`: objects and values of a commit, stamps of a gossip.
-pub fn read_line(line: &[u8], firsts: &mut [u64; 17], seconds: &mut [u64; 17]) -> Call
-    ensures { ReadLine line.now result firsts.new seconds.new }
+// The call that a line is. The numbers of its list go to `listed`.
+pub fn read_line(line: &[u8], listed: &mut Listed) -> Result<Call, Mistake>
+    ensures { ReadLine line.now result listed.new.firsts listed.new.seconds }
 {
-    seventeen(*firsts);
-    seventeen(*seconds);
     let end = words::run_of(line, Class::Text);
     let text = &line[..end];
-    read_text(text, firsts, seconds)
+    read_text(text, listed)
 }

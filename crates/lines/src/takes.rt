@@ -1,97 +1,67 @@
-// What is taken from the front of a line's words: numbers, a hex word, and that no word is left.
-ghost use Rattle.std.specs.Prelude.{◌≡◌, ◌≤◌, length};
-ghost use Rattle.lines.specs.Words.{words_from};
-ghost use Rattle.lines.specs.Behind.{rest_of};
-ghost use Rattle.lines.specs.Promises.{Takes, TakesTwo, TakesHex};
+// What a reader takes from the front of a line's words: the next word, as a number, or as a hex word, and that no word is left.
+ghost use Rattle.std.specs.Prelude.{◌≡◌};
+ghost use Rattle.lines.specs.Words.{words};
+ghost use Rattle.lines.specs.Behind.{first_number, first_hex, closing};
+ghost use Rattle.lines.specs.Promises.{ahead, end_of, Next, Needs, Passed};
 
-use crate::numbers::{Hexed, Item, Number};
-use crate::{Fault, numbers, words};
+use crate::words::{Class, Reader, Span};
+use crate::{Fault, Mistake, numbers, words};
 
-// The number, and where the rest of the line begins.
-#[derive(Clone, Copy)]
-pub struct Taken {
-    pub number: Number,
-    pub next: usize,
-}
-
-// The same of two numbers.
-#[derive(Clone, Copy)]
-pub struct TakenPair {
-    pub item: Item,
-    pub next: usize,
-}
-
-// The same of a hex word.
-#[derive(Clone, Copy)]
-pub struct TakenHex {
-    pub hex: Hexed,
-    pub next: usize,
-}
-
-// No word is left, or one that begins in this column.
-#[derive(Clone, Copy)]
-pub enum Rest {
-    Nothing,
-    Word(usize),
-}
-
-pub fn take_number(text: &[u8], at: usize) -> Taken
-    requires { at ≤ length text.now }
-    ensures { Takes text.now at result }
-{
-    let span = words::next_word(text, at);
-    let from = span.from;
-    let to = span.to;
-    if from == to {
-        let number = Number::Wrong(Fault::Missing, text.len() + 1);
-        return Taken { number, next: at };
+impl<'a> Reader<'a> {
+    pub fn new(text: &'a [u8]) -> Reader<'a>
+        ensures { (result.text.now ≡ text.now) × (ahead result ≡ words 1 text.now) }
+    {
+        Reader { text, at: 0 }
     }
-    let word = &text[from..to];
-    let number = numbers::number_at(word, from + 1);
-    Taken { number, next: to }
-}
 
-pub fn take_two(text: &[u8], at: usize) -> TakenPair
-    requires { at ≤ length text.now }
-    ensures { TakesTwo text.now at result }
-{
-    let first = take_number(text, at);
-    let next = first.next;
-    let second = take_number(text, next);
-    let a = first.number;
-    let b = second.number;
-    let item = numbers::pair_of(a, b);
-    TakenPair {
-        item,
-        next: second.next,
+    // The next word.
+    pub fn next_word(&mut self) -> Option<Span>
+        ensures { Next self.old self.new result }
+    {
+        let rest = &self.text[self.at..];
+        let from = self.at + words::run_of(rest, Class::Gap);
+        let word = &self.text[from..];
+        let to = from + words::run_of(word, Class::Ink);
+        if from == to {
+            return None;
+        }
+        self.at = to;
+        Some(Span { from, to })
     }
-}
 
-pub fn take_hex(text: &[u8], at: usize) -> TakenHex
-    requires { at ≤ length text.now }
-    ensures { TakesHex text.now at result }
-{
-    let span = words::next_word(text, at);
-    let from = span.from;
-    let to = span.to;
-    if from == to {
-        let hex = Hexed::Wrong(Fault::Missing, text.len() + 1);
-        return TakenHex { hex, next: at };
+    // The next word, which is missed behind the last one.
+    fn needed_word(&mut self) -> Result<Span, Mistake>
+        ensures { Needs self.old self.new result }
+    {
+        let missing = Fault::Missing.at(self.text.len() + 1);
+        self.next_word().ok_or(missing)
     }
-    let word = &text[from..to];
-    let hex = numbers::hex_at(word, from + 1);
-    TakenHex { hex, next: to }
-}
 
-pub fn rest_of(text: &[u8], at: usize) -> Rest
-    requires { at ≤ length text.now }
-    ensures { result ≡ rest_of (words_from text.now at) }
-{
-    let span = words::next_word(text, at);
-    let from = span.from;
-    let to = span.to;
-    if from == to {
-        return Rest::Nothing;
+    // The next word, as a number.
+    pub fn number(&mut self) -> Result<u64, Mistake>
+        ensures value { result ≡ first_number (end_of self.old) (ahead self.old) }
+        ensures rest { Passed self.old self.new }
+    {
+        let span = self.needed_word()?;
+        numbers::number_at(&self.text[span.from..span.to], span.from + 1)
     }
-    Rest::Word(from + 1)
+
+    // The next word, as a hex word.
+    pub fn hex(&mut self) -> Result<Span, Mistake>
+        ensures value { result ≡ first_hex (end_of self.old) (ahead self.old) }
+        ensures rest { Passed self.old self.new }
+    {
+        let span = self.needed_word()?;
+        numbers::hex_at(&self.text[span.from..span.to], span.from + 1)
+    }
+
+    // What was read, where no word is left behind it.
+    pub fn close<T: Copy>(&mut self, read: T) -> Result<T, Mistake>
+        ensures { result ≡ closing read (ahead self.old) }
+    {
+        match self.next_word() {
+            None => Ok(read),
+            Some(span) => Err(Fault::Extra.at(span.from + 1)),
+        }
+    }
 }

@@ -1,8 +1,6 @@
 // The names of the coordinator's orders.
 ghost use Rattle.std.specs.Prelude.{◌≡◌};
-ghost use Rattle.lines.specs.Orders.{title_of, lone_title};
-
-use crate::names;
+ghost use Rattle.lines.specs.Orders.{title_of};
 
 // The orders of no word.
 #[derive(Clone, Copy)]
@@ -24,38 +22,19 @@ pub enum Title {
     Lone(Lone),
     Paired(Paired),
     Serve,
-    Unknown,
 }
 
-fn lone_title(word: &[u8]) -> Title
-    ensures { result ≡ lone_title word.now }
-{
-    if names::same(word, b"granted") {
-        return Title::Lone(Lone::Granted);
-    }
-    if names::same(word, b"help") {
-        return Title::Lone(Lone::Help);
-    }
-    if names::same(word, b"quit") {
-        return Title::Lone(Lone::Quit);
-    }
-    if names::same(word, b"exit") {
-        return Title::Lone(Lone::Quit);
-    }
-    Title::Unknown
-}
-
-pub fn title_of(word: &[u8]) -> Title
+pub fn title_of(word: &[u8]) -> Option<Title>
     ensures { result ≡ title_of word.now }
 {
-    if names::same(word, b"grant") {
-        return Title::Paired(Paired::Grant);
-    }
-    if names::same(word, b"message") {
-        return Title::Paired(Paired::Message);
-    }
-    if names::same(word, b"serve") {
-        return Title::Serve;
-    }
-    lone_title(word)
+    let title = match word {
+        b"grant" => Title::Paired(Paired::Grant),
+        b"message" => Title::Paired(Paired::Message),
+        b"serve" => Title::Serve,
+        b"granted" => Title::Lone(Lone::Granted),
+        b"help" => Title::Lone(Lone::Help),
+        b"quit" | b"exit" => Title::Lone(Lone::Quit),
+        _ => return None,
+    };
+    Some(title)
 }

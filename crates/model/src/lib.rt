@@ -3,7 +3,7 @@
 #![tactic(auto)]
 
 ghost use Rattle.std.specs.Prelude.{◌≡◌};
-ghost use Rattle.model.specs.Answers.{code_of, number_of};
+ghost use Rattle.model.specs.Answers.{code_of, number_of, is_done};
 
 // An object's change since the last flush: its first stamp, its latest stamp, its value.
 #[derive(Clone, Copy)]
@@ -40,6 +40,15 @@ pub struct Figures {
     pub lag: i64,
 }
 
+// What a damaged store reports.
+pub const NO_FIGURES: Figures = Figures {
+    pending: 0,
+    past: 0,
+    snapshots: 0,
+    copies: 0,
+    lag: 0,
+};
+
 // What a call answers: a case for each code, with the number where the code has one.
 #[derive(Clone, Copy)]
 pub enum Answer {
@@ -72,6 +81,13 @@ pub enum Verdict {
 }
 
 impl Answer {
+    // The change is made, or the page is shown.
+    pub fn is_done(self) -> bool
+        ensures { result ≡ is_done self }
+    {
+        matches!(self, Answer::Done(_))
+    }
+
     pub fn code(self) -> u64
         ensures { result ≡ code_of self }
     {

@@ -4,207 +4,112 @@
 
 mod calls;
 
-use changes::settling::Changed;
-use journal::place::Place;
-use tables::{Copied, CopyTable, Disk, Heads, PastTable, PendingTable, Snapshots};
+use crate::calls::Night;
 
-const COMMIT: u64 = 1;
-
-const GOSSIP: u64 = 2;
-
-const FLUSH: u64 = 3;
-
-const READ: u64 = 4;
+#[derive(Clone, Copy)]
+enum Call {
+    Commit(u64, u64, u64),
+    Gossip(u64, u64, Option<u64>),
+    Flush(u64),
+    Read(u64, u64),
+}
 
 // What is shown after the answer.
-const JOURNAL: u64 = 1;
-
-const STANDING: u64 = 2;
-
-// Item, call, the call's three numbers, what is shown after it. A commit's numbers: stamp, object, value; a message's: prev, curr and
-// its stamp, or 0; a flush's: page; a read's: time and page.
-const NIGHT: [[u64; 6]; 14] = [
-    [1, COMMIT, 100, 0, 7, JOURNAL],
-    [2, COMMIT, 100, 0, 7, 0],
-    [3, COMMIT, 120, 0, 9, STANDING],
-    [4, GOSSIP, 0, 110, 105, 0],
-    [5, READ, 107, 0, 0, 0],
-    [6, READ, 104, 0, 0, 0],
-    [6, READ, 111, 0, 0, 0],
-    [7, FLUSH, 0, 0, 0, STANDING],
-    [8, FLUSH, 0, 0, 0, 0],
-    [9, GOSSIP, 110, 200, 0, STANDING],
-    [10, COMMIT, 200, 0, 7, 0],
-    [10, GOSSIP, 201, 300, 0, 0],
-    [11, GOSSIP, 100, 300, 106, 0],
-    [11, GOSSIP, 100, 150, 105, 0],
-];
-
-const SEPARATELY: [[u64; 6]; 3] = [
-    [12, COMMIT, 120, 0, 9, 0],
-    [12, GOSSIP, 0, 120, 120, 0],
-    [12, READ, 120, 0, 0, 0],
-];
-
-// A call that changes the store, by its row.
-fn change(
-    rt: &HostRuntime,
-    disk: &mut Disk,
-    dated: &mut Disk,
-    pending: &mut PendingTable,
-    past: &mut PastTable,
-    snapshots: &mut Snapshots,
-    copies: &mut CopyTable,
-    copied: &mut Copied,
-    h: Heads,
-    journal: &mut [u8],
-    used: Place,
-    row: [u64; 6],
-) -> Changed {
-    if row[1] == COMMIT {
-        return calls::commit(
-            rt, disk, dated, pending, past, snapshots, copies, copied, h, journal, used, row[2],
-            row[3], row[4],
-        );
-    }
-    if row[1] == GOSSIP {
-        return calls::gossip(
-            rt, disk, dated, pending, past, snapshots, copies, copied, h, journal, used, row[2],
-            row[3], row[4],
-        );
-    }
-    calls::flush(
-        rt, disk, dated, pending, past, snapshots, copies, copied, h, journal, used, row[2],
-    )
+#[derive(Clone, Copy, PartialEq, Eq)]
+enum Besides {
+    Nothing,
+    Journal,
+    Standing,
 }
 
-// What the row asks for besides the answer.
-fn show(
-    rt: &HostRuntime,
-    disk: &Disk,
-    dated: &Disk,
-    pending: &PendingTable,
-    past: &PastTable,
-    snapshots: &Snapshots,
-    copies: &CopyTable,
-    copied: &Copied,
-    done: Changed,
-    journal: &[u8],
-    asked: u64,
-) {
-    let answer = done.answer;
-    prints::answered(rt, answer);
-    if asked == JOURNAL {
-        let place = done.place;
-        prints::bytes(rt, journal, place.at);
-    }
-    if asked == STANDING {
-        let stood = reads::standing(
-            disk, dated, pending, past, snapshots, copies, copied, done.heads,
-        );
-        let figures = stood.figures;
-        prints::figures(rt, figures);
-    }
-    prints::end(rt);
+// The item's number, its call, what is shown after it.
+#[derive(Clone, Copy)]
+struct Item {
+    number: u64,
+    call: Call,
+    besides: Besides,
 }
 
-// A row of the night, as a line.
-fn step(
-    rt: &HostRuntime,
-    disk: &mut Disk,
-    dated: &mut Disk,
-    pending: &mut PendingTable,
-    past: &mut PastTable,
-    snapshots: &mut Snapshots,
-    copies: &mut CopyTable,
-    copied: &mut Copied,
-    h: Heads,
-    journal: &mut [u8],
-    used: Place,
-    row: [u64; 6],
-) -> Changed {
-    prints::item(rt, row[0]);
-    if row[1] == READ {
-        let answer = calls::read(
-            rt, disk, dated, pending, past, snapshots, copies, copied, h, row[2], row[3],
-        );
-        return Changed {
-            heads: h,
-            answer,
-            place: used,
+const fn item(number: u64, call: Call) -> Item {
+    Item {
+        number,
+        call,
+        besides: Besides::Nothing,
+    }
+}
+
+const fn item_and(number: u64, call: Call, besides: Besides) -> Item {
+    Item {
+        number,
+        call,
+        besides,
+    }
+}
+
+const NIGHT: [Item; 14] = [
+    item_and(1, Call::Commit(100, 0, 7), Besides::Journal),
+    item(2, Call::Commit(100, 0, 7)),
+    item_and(3, Call::Commit(120, 0, 9), Besides::Standing),
+    item(4, Call::Gossip(0, 110, Some(105))),
+    item(5, Call::Read(107, 0)),
+    item(6, Call::Read(104, 0)),
+    item(6, Call::Read(111, 0)),
+    item_and(7, Call::Flush(0), Besides::Standing),
+    item(8, Call::Flush(0)),
+    item_and(9, Call::Gossip(110, 200, None), Besides::Standing),
+    item(10, Call::Commit(200, 0, 7)),
+    item(10, Call::Gossip(201, 300, None)),
+    item(11, Call::Gossip(100, 300, Some(106))),
+    item(11, Call::Gossip(100, 150, Some(105))),
+];
+
+const SEPARATELY: [Item; 3] = [
+    item(12, Call::Commit(120, 0, 9)),
+    item(12, Call::Gossip(0, 120, Some(120))),
+    item(12, Call::Read(120, 0)),
+];
+
+impl Night {
+    // A call's line up to its answer. A call that changes the store goes on from its place.
+    fn make(&mut self, rt: &HostRuntime, call: Call) {
+        let done = match call {
+            Call::Commit(t, object, value) => self.commit(rt, t, object, value),
+            Call::Gossip(prev, curr, stamp) => self.gossip(rt, prev, curr, stamp),
+            Call::Flush(page) => self.flush(rt, page),
+            Call::Read(time, page) => {
+                self.read(rt, time, page);
+                return;
+            }
         };
+        prints::answered(rt, done.answer);
+        self.used = done.place;
     }
-    let done = change(
-        rt, disk, dated, pending, past, snapshots, copies, copied, h, journal, used, row,
-    );
-    show(
-        rt, disk, dated, pending, past, snapshots, copies, copied, done, journal, row[5],
-    );
-    done
-}
 
-fn run(
-    rt: &HostRuntime,
-    disk: &mut Disk,
-    dated: &mut Disk,
-    pending: &mut PendingTable,
-    past: &mut PastTable,
-    snapshots: &mut Snapshots,
-    copies: &mut CopyTable,
-    copied: &mut Copied,
-    fresh: Heads,
-    journal: &mut [u8],
-    start: Place,
-    rows: &[[u64; 6]],
-) {
-    let mut h = fresh;
-    let mut used = start;
-    let mut i: usize = 0;
-    while i < rows.len() {
-        let row = rows[i];
-        i += 1;
-        let done = step(
-            rt, disk, dated, pending, past, snapshots, copies, copied, h, journal, used, row,
-        );
-        h = done.heads;
-        used = done.place;
+    // What the item asks for besides the answer.
+    fn show(&self, rt: &HostRuntime, besides: Besides) {
+        match besides {
+            Besides::Nothing => {}
+            Besides::Journal => prints::bytes(rt, &self.journal, self.used.at),
+            Besides::Standing => {
+                if let Some(figures) = reads::standing_anew(&self.store) {
+                    prints::figures(rt, figures);
+                }
+            }
+        }
     }
 }
 
-fn run_fresh(rt: &HostRuntime, rows: &[[u64; 6]]) {
-    let mut disk = [0u64; 512];
-    let mut dated = [0u64; 512];
-    let mut pending = [[0u64; 4]; 128];
-    let mut past = [[0u64; 4]; 256];
-    let mut snapshots = [0u64; 64];
-    let mut copies = [[0u64; 2]; 128];
-    let mut copied = [0u64; 2048];
-    let mut journal = [0u8; 4096];
-    let h = Heads {
-        pending: 0,
-        past: 0,
-        snapshots: 0,
-        copies: 0,
-        horizon: 0,
-        last: 0,
-    };
-    run(
-        rt,
-        &mut disk,
-        &mut dated,
-        &mut pending,
-        &mut past,
-        &mut snapshots,
-        &mut copies,
-        &mut copied,
-        h,
-        &mut journal,
-        Place { at: 0 },
-        rows,
-    );
+fn run(rt: &HostRuntime, items: &[Item]) {
+    let mut night = Night::new();
+    for item in items {
+        prints::item(rt, item.number);
+        night.make(rt, item.call);
+        night.show(rt, item.besides);
+        prints::end(rt);
+    }
 }
 
 fn main(rt: HostRuntime) {
-    run_fresh(&rt, &NIGHT);
-    run_fresh(&rt, &SEPARATELY);
+    run(&rt, &NIGHT);
+    run(&rt, &SEPARATELY);
 }

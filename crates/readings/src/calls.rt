@@ -1,6 +1,7 @@
-// One call over lent tables, and its line.
+// One call over a store, and its line.
 use crate::print;
-use tables::{Copied, CopyTable, Disk, Heads, PastTable, PendingTable, Snapshots};
+use model::{Answer, NO_FIGURES};
+use tables::Store;
 
 // With a time, with a tick.
 #[derive(Clone, Copy)]
@@ -11,58 +12,46 @@ pub enum Call {
     Standing,
 }
 
+// What a read answers. The line has the call's name, its time or tick and its page.
+fn read(rt: &HostRuntime, store: &Store, call: Call, page: u64, buffer: &mut [u64]) -> Answer {
+    match call {
+        Call::Snapshot(time) => {
+            print::text(rt, b"; snapshot");
+            print::number(rt, time);
+            print::number(rt, page);
+            reads::snapshot_read_anew(store, time, page, buffer)
+        }
+        Call::Clock(tick) => {
+            print::text(rt, b"; clock");
+            print::number(rt, tick);
+            print::number(rt, page);
+            reads::clock_read_anew(store, tick, page, buffer)
+        }
+        _ => {
+            print::text(rt, b"; current");
+            print::number(rt, page);
+            reads::current_read_anew(store, page, buffer)
+        }
+    }
+}
+
 pub fn line(
     rt: &HostRuntime,
     label: u64,
-    disk: &Disk,
-    dated: &Disk,
-    pending: &PendingTable,
-    past: &PastTable,
-    snapshots: &Snapshots,
-    copies: &CopyTable,
-    copied: &Copied,
-    h: Heads,
+    store: &Store,
     call: Call,
     page: u64,
     buffer: &mut [u64],
 ) {
-    match call {
-        Call::Snapshot(time) => {
-            print::call(rt, label, b"; snapshot");
-            print::number(rt, time);
-            print::number(rt, page);
-            let a = reads::snapshot_read(
-                disk, dated, pending, past, snapshots, copies, copied, h, time, page, buffer,
-            );
-            print::shown(rt, a, buffer);
-            return;
+    print::label(rt, label);
+    if let Call::Standing = call {
+        print::text(rt, b"; standing");
+        match reads::standing_anew(store) {
+            Some(figures) => print::stood(rt, Answer::Done(0), figures),
+            None => print::stood(rt, Answer::Damaged, NO_FIGURES),
         }
-        Call::Clock(tick) => {
-            print::call(rt, label, b"; clock");
-            print::number(rt, tick);
-            print::number(rt, page);
-            let a = reads::clock_read(
-                disk, dated, pending, past, snapshots, copies, copied, h, tick, page, buffer,
-            );
-            print::shown(rt, a, buffer);
-            return;
-        }
-        Call::Current => {
-            print::call(rt, label, b"; current");
-            print::number(rt, page);
-            let a = reads::current_read(
-                disk, dated, pending, past, snapshots, copies, copied, h, page, buffer,
-            );
-            print::shown(rt, a, buffer);
-            return;
-        }
-        Call::Standing => {
-            print::call(rt, label, b"; standing");
-            let s = reads::standing(disk, dated, pending, past, snapshots, copies, copied, h);
-            let a = s.answer;
-            let f = s.figures;
-            print::stood(rt, a, f);
-            return;
-        }
+        return;
     }
+    let answer = read(rt, store, call, page, buffer);
+    print::shown(rt, answer, buffer);
 }

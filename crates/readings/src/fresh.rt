@@ -1,43 +1,12 @@
 // A fresh store: every word is 0.
 use crate::calls;
 use crate::calls::Call;
-use tables::{Copied, CopyTable, Disk, Heads, PastTable, PendingTable, Snapshots};
-
-fn heads() -> Heads {
-    Heads {
-        pending: 0,
-        past: 0,
-        snapshots: 0,
-        copies: 0,
-        horizon: 0,
-        last: 0,
-    }
-}
+use tables::Store;
 
 fn read(rt: &HostRuntime, call: Call) {
-    let disk: Disk = [0; 512];
-    let dated: Disk = [0; 512];
-    let pending: PendingTable = [[0; 4]; 128];
-    let past: PastTable = [[0; 4]; 256];
-    let snapshots: Snapshots = [0; 64];
-    let copies: CopyTable = [[0; 2]; 128];
-    let copied: Copied = [0; 2048];
+    let store = Store::empty();
     let mut buffer = [99; 16];
-    calls::line(
-        rt,
-        101,
-        &disk,
-        &dated,
-        &pending,
-        &past,
-        &snapshots,
-        &copies,
-        &copied,
-        heads(),
-        call,
-        0,
-        &mut buffer,
-    );
+    calls::line(rt, 101, &store, call, 0, &mut buffer);
 }
 
 pub fn lines(rt: &HostRuntime) {

@@ -1,7 +1,7 @@
 // The calls over full tables; the counts say how many of the rows are contents.
 use crate::calls::Call;
 use crate::{calls, filled, lay};
-use tables::Heads;
+use tables::{Heads, Store, Written};
 
 // The object, object, snapshot and page of the last rows.
 #[derive(Clone, Copy)]
@@ -33,29 +33,20 @@ pub fn heads(pending: usize, past: usize, snapshots: usize, copies: usize) -> He
 }
 
 pub fn run(rt: &HostRuntime, label: u64, l: Last, h: Heads, call: Call, page: u64) {
-    let disk = lay::disk();
-    let dated = lay::dated();
-    let entries = filled::pending(l.entry);
-    let values = filled::past(l.was);
-    let known = filled::snapshots(l.snap);
-    let archived = filled::copies(l.page);
-    let copied = lay::copied();
+    let store = Store {
+        written: Written {
+            disk: lay::disk(),
+            dated: lay::dated(),
+            pending: filled::pending(l.entry),
+            past: filled::past(l.was),
+        },
+        snapshots: filled::snapshots(l.snap),
+        copies: filled::copies(l.page),
+        copied: lay::copied(),
+        heads: h,
+    };
     let mut buffer = [99; 16];
-    calls::line(
-        rt,
-        label,
-        &disk,
-        &dated,
-        &entries,
-        &values,
-        &known,
-        &archived,
-        &copied,
-        h,
-        call,
-        page,
-        &mut buffer,
-    );
+    calls::line(rt, label, &store, call, page, &mut buffer);
 }
 
 fn read(rt: &HostRuntime, label: u64, h: Heads, call: Call, page: u64) {

@@ -1,9 +1,12 @@
 // The lines that the program writes.
 use model::{Answer, Figures};
 
-// The label of a store and the name of a call.
-pub fn call(rt: &HostRuntime, label: u64, name: &[u8]) {
+// The label of a store.
+pub fn label(rt: &HostRuntime, label: u64) {
     prints::item(rt, label);
+}
+
+pub fn text(rt: &HostRuntime, name: &[u8]) {
     prints::text(rt, name);
 }
 

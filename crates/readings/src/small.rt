@@ -2,24 +2,22 @@
 use crate::calls::Call;
 use crate::store::Small;
 use crate::{calls, lay};
+use tables::{Store, Written};
 
 pub fn into(rt: &HostRuntime, label: u64, s: Small, call: Call, page: u64, buffer: &mut [u64]) {
-    let disk = lay::disk();
-    let dated = lay::dated();
-    let pending_rows = s.pending;
-    let pending = lay::pending(pending_rows);
-    let past_rows = s.past;
-    let past = lay::past(past_rows);
-    let known = s.known;
-    let snapshots = lay::snapshots(known);
-    let copy_rows = s.copies;
-    let copies = lay::copies(copy_rows);
-    let copied = lay::copied();
-    let h = s.heads;
-    calls::line(
-        rt, label, &disk, &dated, &pending, &past, &snapshots, &copies, &copied, h, call, page,
-        buffer,
-    );
+    let store = Store {
+        written: Written {
+            disk: lay::disk(),
+            dated: lay::dated(),
+            pending: lay::pending(s.pending),
+            past: lay::past(s.past),
+        },
+        snapshots: lay::snapshots(s.known),
+        copies: lay::copies(s.copies),
+        copied: lay::copied(),
+        heads: s.heads,
+    };
+    calls::line(rt, label, &store, call, page, buffer);
 }
 
 pub fn read(rt: &HostRuntime, label: u64, s: Small, call: Call, page: u64) {

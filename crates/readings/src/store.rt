@@ -45,8 +45,7 @@ pub fn empty(horizon: u64, last: u64) -> Small {
 
 impl Small {
     pub fn entry(mut self, object: u64, first: u64, latest: u64, value: u64) -> Small {
-        let mut h = self.heads;
-        let n = h.pending;
+        let n = self.heads.pending;
         if n < 3 {
             self.pending[n] = Pending {
                 object,
@@ -54,15 +53,13 @@ impl Small {
                 latest,
                 value,
             };
-            h.pending = n + 1;
-            self.heads = h;
+            self.heads.pending = n + 1;
         }
         self
     }
 
     pub fn was(mut self, object: u64, from: u64, until: u64, value: u64) -> Small {
-        let mut h = self.heads;
-        let n = h.past;
+        let n = self.heads.past;
         if n < 3 {
             self.past[n] = Past {
                 object,
@@ -70,45 +67,34 @@ impl Small {
                 until,
                 value,
             };
-            h.past = n + 1;
-            self.heads = h;
+            self.heads.past = n + 1;
         }
         self
     }
 
     pub fn snap(mut self, s: u64) -> Small {
-        let mut h = self.heads;
-        let n = h.snapshots;
+        let n = self.heads.snapshots;
         if n < 5 {
             self.known[n] = s;
-            h.snapshots = n + 1;
-            self.heads = h;
+            self.heads.snapshots = n + 1;
         }
         self
     }
 
     pub fn copy(mut self, page: u64, stamp: u64) -> Small {
-        let mut h = self.heads;
-        let n = h.copies;
+        let n = self.heads.copies;
         if n < 3 {
             self.copies[n] = CopyHead { page, stamp };
-            h.copies = n + 1;
-            self.heads = h;
+            self.heads.copies = n + 1;
         }
         self
     }
 
     pub fn counts(mut self, pending: usize, past: usize, snapshots: usize, copies: usize) -> Small {
-        let h = self.heads;
-        let counted = Heads {
-            pending,
-            past,
-            snapshots,
-            copies,
-            horizon: h.horizon,
-            last: h.last,
-        };
-        self.heads = counted;
+        self.heads.pending = pending;
+        self.heads.past = past;
+        self.heads.snapshots = snapshots;
+        self.heads.copies = copies;
         self
     }
 }

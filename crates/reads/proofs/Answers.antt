@@ -1,19 +1,17 @@
 -- The reads' answers, in the model's order of the tests, each with what it leaves in the buffer.
-use Prim.Native.Nat.{ℕ, ◌*◌, ◌≤◌, ◌<◌}
+use Prim.Native.Nat.{ℕ, ◌≤◌, ◌<◌}
 use mathlib.Core.Path.{◌≡◌, refl, sym}
 use mathlib.Core.Bool.{Bool, true, false}
 use mathlib.Core.List.{List}
 use lib.ListN.{length}
 use lib.Dec.{ltb}
-use borrow.Author.Tests.{lt-ltb, le-ltb, ltb-true, eqb-true, le-leb, eq-eqb, ne_eqb}
+use borrow.Author.Tests.{lt-ltb, le-ltb, ltb-true, eqb-true, ne_eqb}
 use Rattle.model.specs.declared.Answer.{Answer}
 use Rattle.model.specs.declared.Answer.TheVariants.{Done, Damaged, Shape, Ahead, NoSnapshot}
-use Rattle.model.specs.Limits.{last_tick}
 use Rattle.model.specs.Answers.{is_done}
-use Rattle.model.specs.Lists.{pick}
 use Rattle.model.specs.Store.{Store, page16, object_at, current, page_as_of, page_now}
 use Rattle.model.specs.Damage.{damaged}
-use Rattle.model.specs.Reads.{read_shaped, largest, snapshot_answer, read_at, clock_read, current_read}
+use Rattle.model.specs.Reads.{read_shaped, largest, snapshot_answer, read_at, current_read}
 use Rattle.tables.proofs.Cases.{by_test, clash}
 use Rattle.reads.specs.Read.{Read}
 
@@ -61,11 +59,6 @@ module _ (st : Store) (time p : ℕ) (buffer : List ℕ) where
   pub read_done : {s : ℕ} → snapshot_answer st (read_shaped p buffer) time ≡ Done s → {left : List ℕ} → left ≡ page_as_of st p s → Read (read_at st true time p buffer) (Done s) left
   unfolding read_at
   read_done e f = rw e (record { answered = refl; filled = f })
-
--- ---- at a clock tick
-pub clock_in : (st : Store) (tick p : ℕ) (buffer : List ℕ) → tick ≤ last_tick
-    → {a : Answer} {left : List ℕ} → Read (read_at st true (256 * tick) p buffer) a left → Read (clock_read st tick p buffer) a left
-clock_in st tick p buffer h v = rw (le-leb tick last_tick h) v
 
 -- ---- as it is now
 module _ (st : Store) (p : ℕ) (buffer : List ℕ) where

@@ -1,5 +1,4 @@
 -- Standing: none but zeros where the store is damaged, else the counts, which are the lengths of their contents, and the lag.
-use Prim.Native.Nat.{ℕ}
 use mathlib.Core.Path.{◌≡◌, refl}
 use mathlib.Core.Bool.{true, false}
 use mathlib.Core.List.{[]}

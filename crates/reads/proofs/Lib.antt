@@ -1,7 +1,5 @@
-pub mod Before
 pub mod Undamaged
 pub mod Served
 pub mod Answers
-pub mod Ticks
 pub mod Figured
 pub mod Listed

@@ -2,7 +2,6 @@
 use Rattle.std.specs.Prelude.{Option, Some, None}
 use Prim.Native.Nat.{ℕ, ◌*◌, ◌≤◌, ◌<◌}
 use mathlib.Core.Path.{◌≡◌, ap, sym, ◌∙◌}
-use mathlib.Core.List.{List}
 use native.Mathlib.Omega.{arith}
 use lib.ListN.{length, take, drop, length-take, length-drop}
 use Rattle.model.specs.Store.{Store, Copy, by, unserved, oldest, page16, object_at, page_of, slot_of, look, as_of, page_as_of}

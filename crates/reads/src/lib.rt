@@ -1,8 +1,6 @@
 // The reads of the store, standing and known. None requires anything: each refuses what it can't answer.
 #![tactic(auto)]
 
-mod lent;
-
 ghost use Rattle.std.specs.Prelude.{◌≡◌, true, false, ◌≤◌, length, take, pos, ◌-ℤ◌, IfOk};
 ghost use Rattle.model.specs.Lists.{rising_from};
 ghost use Rattle.model.specs.Store.{page_as_of};
@@ -19,8 +17,6 @@ ghost use Rattle.reads.specs.Knows.{padded, KnowsAnew, StandsAnew};
 use model::{Answer, Figures};
 use tables::{Index, Store};
 use views::{ViewAnew, Word};
-
-pub use lent::{Knowledge, Stood, clock_read, current_read, known, snapshot_read, standing};
 
 // The horizon, the last commit, and every known snapshot.
 #[derive(Clone, Copy)]

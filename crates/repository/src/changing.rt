@@ -4,6 +4,8 @@ ghost use Rattle.tables.specs.Contents.{stored};
 ghost use Rattle.repository.specs.Faces.{Changed};
 
 use crate::{Moved, Store};
+use changes::{committing, flushing, gossiping};
+use journal::place::Place;
 
 // Writes the objects' values at the stamp t.
 #[unsafe(no_mangle)]
@@ -17,23 +19,10 @@ pub extern "C" fn jibcradle_commit(
 ) -> Moved
     ensures { Changed (commit_call (stored store.old) journal.old used t objects.now values.now) result (stored store.new) journal.new }
 {
-    let s = crate::steps::commit(
-        &mut store.written.disk,
-        &mut store.written.dated,
-        &mut store.written.pending,
-        &mut store.written.past,
-        &mut store.snapshots,
-        &mut store.copies,
-        &mut store.copied,
-        store.heads,
-        journal,
-        used,
-        t,
-        objects,
-        values,
-    );
-    store.heads = s.heads;
-    s.moved
+    let used = Place { at: used };
+    Moved::from(committing::commit_anew(
+        store, journal, used, t, objects, values,
+    ))
 }
 
 // Takes a gossip message: its stamps beyond the horizon become known snapshots, and the horizon moves.
@@ -48,23 +37,10 @@ pub extern "C" fn jibcradle_gossip(
 ) -> Moved
     ensures { Changed (gossip_call (stored store.old) journal.old used prev curr stamps.now) result (stored store.new) journal.new }
 {
-    let s = crate::steps::gossip(
-        &mut store.written.disk,
-        &mut store.written.dated,
-        &mut store.written.pending,
-        &mut store.written.past,
-        &mut store.snapshots,
-        &mut store.copies,
-        &mut store.copied,
-        store.heads,
-        journal,
-        used,
-        prev,
-        curr,
-        stamps,
-    );
-    store.heads = s.heads;
-    s.moved
+    let used = Place { at: used };
+    Moved::from(gossiping::gossip_anew(
+        store, journal, used, prev, curr, stamps,
+    ))
 }
 
 // Flushes a page: copies for the due snapshots, and its pending values to disk.
@@ -77,19 +53,6 @@ pub extern "C" fn jibcradle_flush(
 ) -> Moved
     ensures { Changed (flush_call (stored store.old) journal.old used page) result (stored store.new) journal.new }
 {
-    let s = crate::steps::flush(
-        &mut store.written.disk,
-        &mut store.written.dated,
-        &mut store.written.pending,
-        &mut store.written.past,
-        &mut store.snapshots,
-        &mut store.copies,
-        &mut store.copied,
-        store.heads,
-        journal,
-        used,
-        page,
-    );
-    store.heads = s.heads;
-    s.moved
+    let used = Place { at: used };
+    Moved::from(flushing::flush_anew(store, journal, used, page))
 }

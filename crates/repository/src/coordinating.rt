@@ -1,4 +1,4 @@
-// The faces of a coordinator: its state is one lent array of words.
+// The faces of a coordinator: its state is one lent struct.
 ghost use Rattle.model.specs.Coordinator as model;
 ghost use Rattle.model.specs.CoordinatorBytes as keeps;
 ghost use Rattle.model.specs.Exchange as exchanges;
@@ -14,8 +14,7 @@ use coordinator::State;
 pub extern "C" fn jibcradle_coordinator_fresh(state: &mut State) -> Reply
     ensures { Resumed begun result (held state.new) }
 {
-    let answer = coordinator::fresh(state);
-    crate::steps::answered(answer)
+    Reply::from(state.fresh())
 }
 
 // Grants the snapshot 256 x tick + node.
@@ -23,8 +22,7 @@ pub extern "C" fn jibcradle_coordinator_fresh(state: &mut State) -> Reply
 pub extern "C" fn jibcradle_grant(state: &mut State, tick: u64, node: u64) -> Reply
     ensures { Granted (model.grant (held state.old) tick node) result (held state.new) }
 {
-    let answer = coordinator::grant(state, tick, node);
-    crate::steps::answered(answer)
+    Reply::from(state.grant(tick, node))
 }
 
 // Writes the message with the snapshots after prev up to a clock stamp, at the buffer's front.
@@ -37,8 +35,7 @@ pub extern "C" fn jibcradle_message(
 ) -> Reply
     ensures { Sent (model.message (held state.old) prev clock buffer.old) result (held state.new) buffer.new }
 {
-    let answer = coordinator::messages::message(state, prev, clock, buffer);
-    crate::steps::answered(answer)
+    Reply::from(state.message(prev, clock, buffer))
 }
 
 // The same for the bytes of a request.
@@ -46,8 +43,7 @@ pub extern "C" fn jibcradle_message(
 pub extern "C" fn jibcradle_serve(state: &mut State, request: &[u8], buffer: &mut [u8]) -> Reply
     ensures { Sent (exchanges.serve (held state.old) request.now buffer.old) result (held state.new) buffer.new }
 {
-    let answer = coordinator::messages::serve(state, request, buffer);
-    crate::steps::answered(answer)
+    Reply::from(state.serve(request, buffer))
 }
 
 // The state's bytes, at the buffer's front.
@@ -55,8 +51,7 @@ pub extern "C" fn jibcradle_serve(state: &mut State, request: &[u8], buffer: &mu
 pub extern "C" fn jibcradle_coordinator_keep(state: &State, buffer: &mut [u8]) -> Reply
     ensures { Shown (keeps.keep_coordinator (held state.now) buffer.old) result buffer.new }
 {
-    let answer = coordinator::kept::keep(state, buffer);
-    crate::steps::answered(answer)
+    Reply::from(state.keep(buffer))
 }
 
 // The coordinator that bytes hold, or a fresh one where they are refused. Whatever the words held before is gone.
@@ -64,6 +59,5 @@ pub extern "C" fn jibcradle_coordinator_keep(state: &State, buffer: &mut [u8]) -
 pub extern "C" fn jibcradle_coordinator_restart(state: &mut State, bytes: &[u8]) -> Reply
     ensures { Resumed (keeps.restart_coordinator bytes.now) result (held state.new) }
 {
-    let answer = coordinator::kept::restart(state, bytes);
-    crate::steps::answered(answer)
+    Reply::from(state.restart(bytes))
 }

@@ -4,24 +4,15 @@ ghost use Rattle.tables.specs.Contents.{stored};
 ghost use Rattle.repository.specs.Faces.{Shown, Changed};
 
 use crate::{Moved, Reply, Store};
+use exchange::{asking, hearing};
+use journal::place::Place;
 
 // The request from the horizon to a stamp, at the buffer's front.
 #[unsafe(no_mangle)]
 pub extern "C" fn jibcradle_ask(store: &Store, to: u64, buffer: &mut [u8]) -> Reply
     ensures { Shown (model.ask (stored store.now) to buffer.old) result buffer.new }
 {
-    crate::steps::ask(
-        &store.written.disk,
-        &store.written.dated,
-        &store.written.pending,
-        &store.written.past,
-        &store.snapshots,
-        &store.copies,
-        &store.copied,
-        store.heads,
-        to,
-        buffer,
-    )
+    Reply::from(asking::ask_anew(store, to, buffer))
 }
 
 // Takes the bytes of a message as gossip.
@@ -34,19 +25,6 @@ pub extern "C" fn jibcradle_hear(
 ) -> Moved
     ensures { Changed (model.hear (stored store.old) journal.old used message.now) result (stored store.new) journal.new }
 {
-    let s = crate::steps::hear(
-        &mut store.written.disk,
-        &mut store.written.dated,
-        &mut store.written.pending,
-        &mut store.written.past,
-        &mut store.snapshots,
-        &mut store.copies,
-        &mut store.copied,
-        store.heads,
-        journal,
-        used,
-        message,
-    );
-    store.heads = s.heads;
-    s.moved
+    let used = Place { at: used };
+    Moved::from(hearing::hear_anew(store, journal, used, message))
 }

@@ -1,9 +1,10 @@
-// The faces that only read: the tables are lent out of the struct, and the struct stays as it is.
+// The faces that only read: the struct stays as it is.
 ghost use Rattle.model.specs.Reads as reads;
 ghost use Rattle.tables.specs.Contents.{stored};
 ghost use Rattle.repository.specs.Faces.{Shown, Stood, Knew};
 
 use crate::{Knowledge, Reply, Report, Store};
+use model::{Answer, Figures, NO_FIGURES};
 
 // The page as of the largest known snapshot at or before a time.
 #[unsafe(no_mangle)]
@@ -15,19 +16,7 @@ pub extern "C" fn jibcradle_snapshot_read(
 ) -> Reply
     ensures { Shown (reads.snapshot_read (stored store.now) time page buffer.old) result buffer.new }
 {
-    crate::steps::snapshot_read(
-        &store.written.disk,
-        &store.written.dated,
-        &store.written.pending,
-        &store.written.past,
-        &store.snapshots,
-        &store.copies,
-        &store.copied,
-        store.heads,
-        time,
-        page,
-        buffer,
-    )
+    Reply::from(reads::snapshot_read_anew(store, time, page, buffer))
 }
 
 // The same at a clock tick.
@@ -40,19 +29,7 @@ pub extern "C" fn jibcradle_clock_read(
 ) -> Reply
     ensures { Shown (reads.clock_read (stored store.now) tick page buffer.old) result buffer.new }
 {
-    crate::steps::clock_read(
-        &store.written.disk,
-        &store.written.dated,
-        &store.written.pending,
-        &store.written.past,
-        &store.snapshots,
-        &store.copies,
-        &store.copied,
-        store.heads,
-        tick,
-        page,
-        buffer,
-    )
+    Reply::from(reads::clock_read_anew(store, tick, page, buffer))
 }
 
 // The page as it is now.
@@ -60,18 +37,21 @@ pub extern "C" fn jibcradle_clock_read(
 pub extern "C" fn jibcradle_current_read(store: &Store, page: u64, buffer: &mut [u64]) -> Reply
     ensures { Shown (reads.current_read (stored store.now) page buffer.old) result buffer.new }
 {
-    crate::steps::current_read(
-        &store.written.disk,
-        &store.written.dated,
-        &store.written.pending,
-        &store.written.past,
-        &store.snapshots,
-        &store.copies,
-        &store.copied,
-        store.heads,
-        page,
-        buffer,
-    )
+    Reply::from(reads::current_read_anew(store, page, buffer))
+}
+
+fn report(answer: Answer, figures: Figures) -> Report
+    ensures { Stood (record { answer = answer; figures = figures }) result }
+{
+    Report {
+        code: answer.code(),
+        number: answer.number(),
+        pending: figures.pending,
+        past: figures.past,
+        snapshots: figures.snapshots,
+        copies: figures.copies,
+        lag: figures.lag,
+    }
 }
 
 // The numbers of rows in the tables, and the lag.
@@ -79,16 +59,10 @@ pub extern "C" fn jibcradle_current_read(store: &Store, page: u64, buffer: &mut 
 pub extern "C" fn jibcradle_standing(store: &Store) -> Report
     ensures { Stood (reads.standing (stored store.now)) result }
 {
-    crate::steps::standing(
-        &store.written.disk,
-        &store.written.dated,
-        &store.written.pending,
-        &store.written.past,
-        &store.snapshots,
-        &store.copies,
-        &store.copied,
-        store.heads,
-    )
+    match reads::standing_anew(store) {
+        Some(figures) => report(Answer::Done(0), figures),
+        None => report(Answer::Damaged, NO_FIGURES),
+    }
 }
 
 // The horizon, the last commit, and every known snapshot.
@@ -96,14 +70,22 @@ pub extern "C" fn jibcradle_standing(store: &Store) -> Report
 pub extern "C" fn jibcradle_known(store: &Store) -> Knowledge
     ensures { Knew (reads.known (stored store.now)) result }
 {
-    crate::steps::known(
-        &store.written.disk,
-        &store.written.dated,
-        &store.written.pending,
-        &store.written.past,
-        &store.snapshots,
-        &store.copies,
-        &store.copied,
-        store.heads,
-    )
+    match reads::known_anew(store) {
+        Some(known) => Knowledge {
+            code: Answer::Done(0).code(),
+            number: 0,
+            horizon: known.horizon,
+            last: known.last,
+            count: known.snapshots.len() as u64,
+            stamps: reads::padded(known.snapshots),
+        },
+        None => Knowledge {
+            code: Answer::Damaged.code(),
+            number: 0,
+            horizon: 0,
+            last: 0,
+            count: 0,
+            stamps: [0; 64],
+        },
+    }
 }

@@ -10,17 +10,7 @@ use crate::{Moved, Store};
 pub extern "C" fn jibcradle_fresh(store: &mut Store) -> Moved
     ensures { Begun starts.fresh_start result (stored store.new) }
 {
-    let s = crate::steps::fresh(
-        &mut store.written.disk,
-        &mut store.written.dated,
-        &mut store.written.pending,
-        &mut store.written.past,
-        &mut store.snapshots,
-        &mut store.copies,
-        &mut store.copied,
-    );
-    store.heads = s.heads;
-    s.moved
+    Moved::from(restart::fresh_anew(store))
 }
 
 // The store that a journal's whole records make.
@@ -28,16 +18,5 @@ pub extern "C" fn jibcradle_fresh(store: &mut Store) -> Moved
 pub extern "C" fn jibcradle_restart(store: &mut Store, journal: &[u8]) -> Moved
     ensures { Begun (starts.restart journal.now) result (stored store.new) }
 {
-    let s = crate::steps::restart(
-        &mut store.written.disk,
-        &mut store.written.dated,
-        &mut store.written.pending,
-        &mut store.written.past,
-        &mut store.snapshots,
-        &mut store.copies,
-        &mut store.copied,
-        journal,
-    );
-    store.heads = s.heads;
-    s.moved
+    Moved::from(restart::restart_anew(store, journal))
 }

@@ -217,6 +217,7 @@ pub fn look_at_all_anew(
 }
 
 // The first of the stamps at or behind one, or their count.
+// Kept: `partition_point` in place of this and of `leap` took four percent more instructions for a page as of many stamps.
 pub fn first_from(stamps: &[u64], stamp: u64) -> usize
     requires { Ordered stamps.now }
     ensures { FirstFrom stamps.now stamp result }

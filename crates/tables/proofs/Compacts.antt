@@ -9,14 +9,24 @@ use native.Mathlib.Numerals.{add-one}
 use native.Mathlib.Omega.{arith}
 use lib.ListN.{length, take, drop, get_or, set, length-set}
 use lib.Seq.{take-suc, drop-cons, take-set-le, drop-set-lt, take-suc-set}
+use mir.Val.{bool_byte}
 use Rattle.model.specs.declared.Past.{Past}
 use Rattle.model.specs.Lists.{pick}
 use Rattle.tables.specs.Rows.{past_of}
-use Rattle.tables.specs.Compaction.{after, chosen, Compacted}
+use Rattle.tables.specs.Compaction.{chosen, Compacted}
 
 -- the row that stands for no row
 abbrev pub no_past : Past
 no_past = past_of []
+
+-- the place after a row
+abbrev after : Bool → ℕ → ℕ
+after true k = k + 1
+after false k = k
+
+pub after_is : (b : Bool) (k : ℕ) → after b k ≡ k + bool_byte b
+after_is true k = refl
+after_is false k = omega arith
 
 -- the chosen ones of one row more
 pick_app : (b : Bool) (x : Past) (xs ys : List Past) → pick b (x ∷ (xs ++ ys)) (xs ++ ys) ≡ pick b (x ∷ xs) xs ++ ys

@@ -1,15 +1,14 @@
 -- One turn of a compaction of r in place, where k rows are kept and i are passed of n; and its end. What is kept of joined lists.
 use Prim.Native.Nat.{ℕ, suc, ◌+◌, ◌<◌, ◌≤◌}
-use mathlib.Core.Path.{◌≡◌, refl, ap, sym, ◌∙◌}
-use mathlib.Core.Bool.{Bool, true, false}
-use mathlib.Core.List.{List, [], ◌∷◌, ◌++◌, append_assoc, append-nil}
+use mathlib.Core.Path.{◌≡◌, refl}
+use mathlib.Core.Bool.{Bool, true}
+use mathlib.Core.List.{List, [], ◌∷◌, ◌++◌, append_assoc}
 use native.Mathlib.Numerals.{add-one}
 use native.Mathlib.Omega.{arith}
 use lib.ListN.{length, take, drop, get_or, set}
-use lib.Seq.{slice-cons, take-suc-set, take-set-lt, drop-set-lt, length-take-le}
+use lib.Seq.{slice-cons, take-suc-set, take-set-lt, drop-set-lt}
 use Rattle.model.specs.Lists.{kept}
 use Rattle.tables.proofs.Cases.{by_test}
-use Rattle.tables.proofs.Searches.{drop_end}
 
 module _ {A : Type 0} (f : A → Bool) (r : List A) (k i n : ℕ) (d : A) (hk : k ≤ i) (hi : i < n) (hn : n ≤ length r) where
   pub keep_yes : f (get_or r i d) ≡ true

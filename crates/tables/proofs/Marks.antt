@@ -1,6 +1,6 @@
 -- Marks: those of the copies from a row on, whatever words they hold, after one copy more; of one page, by a stamp, and by page number.
-use Prim.Native.Nat.{ℕ, zero, suc, ◌+◌, ◌-◌, ◌<◌, ◌≤◌, max}
-use mathlib.Core.Path.{◌≡◌, refl, ◌∙◌, sym, ap, subst}
+use Prim.Native.Nat.{ℕ, zero, suc, ◌-◌, ◌<◌, ◌≤◌, max}
+use mathlib.Core.Path.{◌≡◌, refl, sym, ap, subst}
 use mathlib.Core.Bool.{true}
 use mathlib.Core.List.{List, [], ◌∷◌}
 use native.Mathlib.Omega.{arith}

@@ -1,12 +1,10 @@
 -- A search from the first row on: one turn, and the end.
-use Prim.Native.Nat.{ℕ, zero, suc, ◌+◌, ◌<◌, ◌≤◌}
+use Prim.Native.Nat.{ℕ, zero, suc, ◌<◌, ◌≤◌}
 use mathlib.Core.Path.{◌≡◌, refl, sym}
 use mathlib.Core.Bool.{Bool, true, false}
 use mathlib.Core.List.{List, [], ◌∷◌}
-use native.Mathlib.Numerals.{add-one}
 use native.Mathlib.Omega.{arith}
 use lib.ListN.{length, take, drop, get_or, length-take, drop_of_length-le}
-use lib.Seq.{slice-cons}
 use Rattle.model.specs.Lists.{both, any_b, all_b}
 use Rattle.tables.proofs.Cases.{clash}
 

@@ -1,14 +1,9 @@
 -- What it is to keep chosen rows of a list, in order, at its front.
---     after b k                one more where a row is kept
 --     chosen bs xs             the rows of xs whose choice is true, in order
 --     Compacted bs n xs zs k   zs is xs with the chosen ones of its first n rows at its front, k of them; the rows from n on are as they were
-use Rattle.std.specs.Prelude.{ℕ, ◌+◌, ◌≤◌, ◌≡◌, Bool, true, false, List, [], ◌∷◌, length, take, drop}
+use Rattle.std.specs.Prelude.{ℕ, ◌≤◌, ◌≡◌, Bool, List, [], ◌∷◌, length, take, drop}
 use Rattle.model.specs.declared.Past.{Past}
 use Rattle.model.specs.Lists.{pick}
-
-abbrev pub after : Bool → ℕ → ℕ
-after true k = k + 1
-after false k = k
 
 abbrev pub chosen : List Bool → List Past → List Past
 chosen [] xs = []

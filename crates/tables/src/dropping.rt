@@ -3,7 +3,7 @@ ghost use Rattle.std.specs.Prelude.{Option, IsTrue, ◌↔◌, EachIndex, slice_
 ghost use Rattle.model.specs.Lists.{kept, rising_from, all_b};
 ghost use Rattle.tables.specs.Rows.{pasts};
 ghost use Rattle.tables.specs.Lookups.{last_before, in_scope, stays_by};
-ghost use Rattle.tables.specs.Compaction.{after, chosen, Compacted};
+ghost use Rattle.tables.specs.Compaction.{chosen, Compacted};
 
 use crate::{PastTable, Snapshots};
 use model::Past;
@@ -30,23 +30,15 @@ fn stays(q: Past, horizon: u64, s: u64, marks: &[u64; 32]) -> bool
     crate::lookups::wants(q, s, marked)
 }
 
-// The place after a row.
-fn next(stays: bool, k: usize) -> usize
-    requires { k < 16 }
-    ensures { result ≡ after stays k }
-{
-    if stays { k + 1 } else { k }
-}
-
 // The rows that stay go to the front in their order; the result is their count.
 pub fn compact(rows: &mut [Past], stay: &[bool]) -> usize
-    requires { (length rows.old ≡ length stay.now) × (length stay.now ≤ 16) }
+    requires { length rows.old ≡ length stay.now }
     ensures { Compacted stay.now (length stay.now) rows.old rows.new result }
 {
     let mut k: usize = 0;
     for (i, stays) in stay.iter().enumerate() {
         rows[k] = rows[i];
-        k = next(*stays, k);
+        k += usize::from(*stays);
     }
     k
 }

@@ -6,7 +6,8 @@ pub mod lookups;
 
 ghost use Rattle.std.specs.Prelude.{◌≡◌, ◌<◌, set};
 ghost use Rattle.tables.specs.Rows.{pendings, pasts, copy_heads, pending_at, past_at, copy_head_at, touched};
-ghost use Rattle.tables.specs.Contents.{Laid};
+ghost use Rattle.model.specs.Store.{fresh};
+ghost use Rattle.tables.specs.Contents.{Laid, stored};
 
 use model::{Past, Pending};
 
@@ -64,12 +65,40 @@ pub struct Store {
     pub heads: Heads,
 }
 
+impl Store {
+    // A store without a row.
+    pub fn empty() -> Store
+        ensures { stored result ≡ fresh }
+    {
+        Store {
+            written: Written {
+                disk: [0; 512],
+                dated: [0; 512],
+                pending: [[0; 4]; 128],
+                past: [[0; 4]; 256],
+            },
+            snapshots: [0; 64],
+            copies: [[0; 2]; 128],
+            copied: [0; 2048],
+            heads: Heads {
+                pending: 0,
+                past: 0,
+                snapshots: 0,
+                copies: 0,
+                horizon: 0,
+                last: 0,
+            },
+        }
+    }
+}
+
 #[derive(Clone, Copy)]
 pub struct CopyHead {
     pub page: u64,
     pub stamp: u64,
 }
 
+// Kept: a reader and a writer for each kind of row. A trait for rows would hold the same six bodies, and its laws between them and their contracts.
 pub fn pending_at(t: &PendingTable, i: usize) -> Pending
     requires { i < 128 }
     ensures { result ≡ pending_at (pendings t.now) i }

@@ -1,5 +1,5 @@
 // Lines from standard input, by way of a lent buffer.
-ghost use Rattle.std.specs.Prelude.{◌≡◌, ◌≤◌, ◌<◌, length};
+ghost use Rattle.std.specs.Prelude.{◌≡◌, ◌≤◌, ◌<◌, length, MatchOption};
 ghost use Rattle.terminal.specs.Buffers.{Within, Lies};
 
 use crate::say;
@@ -11,6 +11,9 @@ pub const TURNS: u64 = 4611686018427387904;
 // A line and its newline.
 const ROOM: usize = 1048577;
 
+// A mark of UTF-8 at the start of a file is no part of its first line.
+const MARK: &[u8] = b"\xef\xbb\xbf";
+
 pub fn buffer() -> [u8; ROOM]
     ensures { 1048577 ≡ length result }
 {
@@ -18,14 +21,22 @@ pub fn buffer() -> [u8; ROOM]
 }
 
 // Where lines come from: standard input, or nowhere, so that there are none but those laid in the buffer.
-#[derive(Clone, Copy)]
+#[derive(Clone, Copy, PartialEq, Eq, Debug)]
 pub enum Source {
     Typed,
     Laid,
 }
 
+// What is still to come: more, nothing at the end of the input, or nothing since reading failed.
+#[derive(Clone, Copy, PartialEq, Eq, Debug)]
+pub enum State {
+    Going,
+    Ended,
+    Failed,
+}
+
 // Where the input stands: the bytes from start to end are read and not yet served, they begin the line of this number, and no
-// newline is among those before seen. A line that is too long is passed over to its newline. Reading that failed ends the input.
+// newline is among those before seen. A line that is too long is passed over to its newline.
 #[derive(Clone, Copy)]
 pub struct Input {
     pub source: Source,
@@ -34,55 +45,14 @@ pub struct Input {
     pub end: usize,
     pub line: u64,
     pub passing: bool,
-    pub going: bool,
-    pub failed: bool,
+    pub state: State,
 }
 
-// The input at its start, with so many bytes in the buffer already.
-pub fn at_start(buffer: &[u8], source: Source, laid: usize) -> Input
-    ensures { Within result (length buffer.now) }
-{
-    let end = files::paths::within(laid, buffer);
-    Input {
-        source,
-        start: 0,
-        seen: 0,
-        end,
-        line: 1,
-        passing: false,
-        going: true,
-        failed: false,
-    }
-}
-
-// A line's bytes: none where there is no line to serve yet.
+// Where a line lies in the buffer.
 #[derive(Clone, Copy)]
-pub struct Taken {
-    pub input: Input,
+pub struct Span {
     pub from: usize,
     pub to: usize,
-}
-
-// No input has so many lines.
-const LAST: u64 = 18446744073709551615;
-
-fn next_line(number: u64) -> u64 {
-    if number < LAST { number + 1 } else { number }
-}
-
-// The first newline among these bytes, or their end.
-fn newline(buffer: &[u8], start: usize, end: usize) -> usize
-    requires { (start ≤ end) × (end ≤ length buffer.now) }
-    ensures { (start ≤ result) × (result ≤ end) }
-{
-    let mut i = start;
-    while i < end {
-        if buffer[i] == b'\n' {
-            return i;
-        }
-        i += 1;
-    }
-    end
 }
 
 // A line that nobody typed is shown as if somebody had.
@@ -92,218 +62,175 @@ fn shown(rt: &HostRuntime, line: &[u8]) -> bool {
     say::text(rt, b"\n")
 }
 
-// A mark of UTF-8 at the start of a file is no part of its first line.
+// How many bytes at the front of the line of this number are a mark.
 fn mark(bytes: &[u8], number: u64) -> usize
     ensures { result ≤ length bytes.now }
 {
-    if number != 1 {
-        return 0;
+    if number == 1 && MARK.len() <= bytes.len() && bytes.starts_with(MARK) {
+        return MARK.len();
     }
-    if bytes.len() < 3 {
-        return 0;
-    }
-    if bytes[0] != 239 {
-        return 0;
-    }
-    if bytes[1] != 187 {
-        return 0;
-    }
-    if bytes[2] != 191 {
-        return 0;
-    }
-    3
+    0
 }
 
-// The line that ends at a newline.
-fn line_to(rt: &HostRuntime, buffer: &[u8], input: Input, at: usize) -> Taken
-    requires { Within input (length buffer.now) × (input.start ≤ at) × (at < input.end) }
-    ensures { Lies result (length buffer.now) }
+// The first newline among these bytes.
+fn newline(buffer: &[u8], start: usize, end: usize) -> Option<usize>
+    requires { (start ≤ end) × (end ≤ length buffer.now) }
+    ensures { MatchOption result (Unit {0}) (λ at. (start ≤ at) × (at < end)) }
 {
-    let start = input.start;
-    let next = Input {
-        source: input.source,
-        start: at + 1,
-        seen: at + 1,
-        end: input.end,
-        line: next_line(input.line),
-        passing: false,
-        going: true,
-        failed: false,
-    };
-    if input.passing {
-        return Taken {
-            input: next,
-            from: 0,
-            to: 0,
-        };
-    }
-    if let Source::Laid = input.source {
-        shown(rt, &buffer[start..at]);
-    }
-    let from = start + mark(&buffer[start..at], input.line);
-    Taken {
-        input: next,
-        from,
-        to: at,
-    }
+    let at = buffer[start..end].iter().position(|b| *b == b'\n')?;
+    Some(start + at)
 }
 
-// Moves the bytes from start to end to the front.
-fn shift(buffer: &mut [u8], start: usize, end: usize)
-    requires { (start ≤ end) × (end ≤ length buffer.old) }
-{
-    let mut i: usize = 0;
-    while i < end - start {
-        buffer[i] = buffer[start + i];
-        i += 1;
-    }
-}
-
-// The beginning of a line, at the front of the buffer.
-fn begun(input: Input, kept: usize, passing: bool) -> Input
-    ensures { (result.start ≡ 0) × (result.seen ≡ kept) × (result.end ≡ kept) }
-{
-    Input {
-        source: input.source,
-        start: 0,
-        seen: kept,
-        end: kept,
-        line: input.line,
-        passing,
-        going: true,
-        failed: false,
-    }
-}
-
-// No more is read: at the end of the input, or where something failed.
-fn ended(input: Input, failed: bool) -> Input
-    ensures { (result.start ≡ 0) × (result.seen ≡ 0) × (result.end ≡ 0) }
-{
-    Input {
-        source: input.source,
-        start: 0,
-        seen: 0,
-        end: 0,
-        line: input.line,
-        passing: false,
-        going: false,
-        failed,
-    }
-}
-
-// Makes room behind the beginning of a line. One that fills the buffer is too long.
-fn moved(rt: &HostRuntime, buffer: &mut [u8], input: Input) -> Input
-    requires { Within input (length buffer.old) }
-    ensures { Within result (length buffer.new) }
-{
-    if input.passing {
-        return begun(input, 0, true);
-    }
-    let kept = input.end - input.start;
-    shift(buffer, input.start, input.end);
-    if kept < buffer.len() {
-        return begun(input, kept, false);
-    }
-    if say::wrong_line(rt, input.line, b" is longer than 1048576 bytes\n") {
-        return begun(input, 0, true);
-    }
-    ended(input, true)
-}
-
-// A line that was begun and has no end may be half of a call.
-fn over(rt: &HostRuntime, input: Input) -> Input
-    ensures { (result.start ≡ 0) × (result.seen ≡ 0) × (result.end ≡ 0) }
-{
-    if 0 < input.end && !input.passing {
-        let said = say::wrong_line(rt, input.line, b" has no end\n");
-        return ended(input, !said);
-    }
-    ended(input, false)
-}
-
-fn prompt(rt: &HostRuntime, input: Input) {
+fn prompt(rt: &HostRuntime, input: &Input) {
     if input.end == 0 && !input.passing && rt.stdin().is_terminal() {
         say::text(rt, b"> ");
     }
 }
 
-// What one read gives: how many bytes, or none where it was interrupted or failed.
-#[derive(Clone, Copy)]
-enum Got {
-    Bytes(usize),
-    Interrupted,
-    Failed,
-}
-
-// Reads once, after a word on standard error where that fails.
-fn read_once(rt: &HostRuntime, room: &mut [u8]) -> Got {
+// Reads once: how many bytes came, and none where it was interrupted. Where it failed there was a word on standard error.
+fn read_once(rt: &HostRuntime, room: &mut [u8]) -> Result<Option<usize>, State> {
     let mut stdin = rt.stdin();
     match stdin.read(room) {
-        Ok(n) => Got::Bytes(n),
+        Ok(n) => Ok(Some(n)),
+        Err(error) if error.kind() == ErrorKind::Interrupted => Ok(None),
         Err(error) => {
-            if error.kind() == ErrorKind::Interrupted {
-                return Got::Interrupted;
-            }
             files::trouble::fail(rt, b"standard input", &error);
-            Got::Failed
+            Err(State::Failed)
         }
     }
 }
 
-// Reads once behind the bytes that are there.
-fn read(rt: &HostRuntime, buffer: &mut [u8], input: Input) -> Input
-    requires { Within input (length buffer.old) }
-    ensures { Within result (length buffer.new) }
-{
-    if let Source::Laid = input.source {
-        return over(rt, input);
+impl Input {
+    // The input at its start, with a text in the buffer already.
+    pub fn at_start(buffer: &mut [u8], source: Source, laid: &[u8]) -> Input
+        ensures within { Within result (length buffer.new) }
+    {
+        let end = laid.len().min(buffer.len());
+        buffer[..end].copy_from_slice(&laid[..end]);
+        Input {
+            source,
+            start: 0,
+            seen: 0,
+            end,
+            line: 1,
+            passing: false,
+            state: State::Going,
+        }
     }
-    prompt(rt, input);
-    let end = input.end;
-    match read_once(rt, &mut buffer[end..]) {
-        Got::Interrupted => input,
-        Got::Failed => ended(input, true),
-        Got::Bytes(count) => {
-            let n = files::paths::within(count, &buffer[end..]);
-            if n == 0 {
-                return over(rt, input);
-            }
-            Input {
-                source: input.source,
-                start: 0,
-                seen: end,
-                end: end + n,
-                line: input.line,
-                passing: input.passing,
-                going: true,
-                failed: false,
+
+    // The line that ends at a newline, and none where it is passed over.
+    fn line_to(&mut self, rt: &HostRuntime, buffer: &[u8], at: usize) -> Option<Span>
+        requires { Within self.old (length buffer.now) × (self.old.start ≤ at) × (at < self.old.end) }
+        ensures within { Within self.new (length buffer.now) }
+        ensures lies { MatchOption result (Unit {0}) (λ s. Lies s (length buffer.now)) }
+    {
+        let line = &buffer[self.start..at];
+        let from = self.start + mark(line, self.line);
+        let passed = self.passing;
+        self.start = at + 1;
+        self.seen = at + 1;
+        self.line = self.line.saturating_add(1);
+        self.passing = false;
+        if passed {
+            return None;
+        }
+        if self.source == Source::Laid {
+            shown(rt, line);
+        }
+        Some(Span { from, to: at })
+    }
+
+    // So many bytes of a line stand at the front of the buffer, and are searched.
+    fn begin(&mut self, kept: usize)
+        ensures bounds { (self.new.start ≡ 0) × (self.new.seen ≡ kept) × (self.new.end ≡ kept) }
+    {
+        self.start = 0;
+        self.seen = kept;
+        self.end = kept;
+    }
+
+    // No more is read.
+    fn end(&mut self, state: State)
+        ensures bounds { (self.new.start ≡ 0) × (self.new.seen ≡ 0) × (self.new.end ≡ 0) }
+    {
+        self.begin(0);
+        self.state = state;
+    }
+
+    // Makes room behind the beginning of a line. One that fills the buffer is too long.
+    fn make_room(&mut self, rt: &HostRuntime, buffer: &mut [u8])
+        requires { Within self.old (length buffer.old) }
+        ensures { Within self.new (length buffer.new) }
+    {
+        if self.passing {
+            self.begin(0);
+            return;
+        }
+        let kept = self.end - self.start;
+        buffer.copy_within(self.start..self.end, 0);
+        if kept < buffer.len() {
+            self.begin(kept);
+            return;
+        }
+        if say::wrong_line(rt, self.line, b" is longer than 1048576 bytes\n") {
+            self.begin(0);
+            self.passing = true;
+            return;
+        }
+        self.end(State::Failed);
+    }
+
+    // A line that was begun and has no end may be half of a call.
+    fn over(&mut self, rt: &HostRuntime)
+        ensures bounds { (self.new.start ≡ 0) × (self.new.seen ≡ 0) × (self.new.end ≡ 0) }
+    {
+        if 0 < self.end && !self.passing && !say::wrong_line(rt, self.line, b" has no end\n") {
+            self.end(State::Failed);
+            return;
+        }
+        self.end(State::Ended);
+    }
+
+    // Reads once behind the bytes that are there.
+    fn read(&mut self, rt: &HostRuntime, buffer: &mut [u8])
+        requires { Within self.old (length buffer.old) }
+        ensures { Within self.new (length buffer.new) }
+    {
+        if self.source == Source::Laid {
+            self.over(rt);
+            return;
+        }
+        prompt(rt, self);
+        let end = self.end;
+        match read_once(rt, &mut buffer[end..]) {
+            Ok(None) => {}
+            Err(state) => self.end(state),
+            Ok(Some(count)) => {
+                let n = files::paths::within(count, &buffer[end..]);
+                if n == 0 {
+                    self.over(rt);
+                } else {
+                    self.start = 0;
+                    self.seen = end;
+                    self.end = end + n;
+                }
             }
         }
     }
-}
 
-// The next line, or one turn on the way to it.
-pub fn take(rt: &HostRuntime, buffer: &mut [u8], input: Input) -> Taken
-    requires { Within input (length buffer.old) }
-    ensures { Lies result (length buffer.new) }
-{
-    let end = input.end;
-    let at = newline(buffer, input.seen, end);
-    if at < end {
-        return line_to(rt, buffer, input, at);
-    }
-    let left = moved(rt, buffer, input);
-    if !left.going {
-        return Taken {
-            input: left,
-            from: 0,
-            to: 0,
-        };
-    }
-    let more = read(rt, buffer, left);
-    Taken {
-        input: more,
-        from: 0,
-        to: 0,
+    // The next line, or none yet after one turn on the way to it.
+    pub fn take(&mut self, rt: &HostRuntime, buffer: &mut [u8]) -> Option<Span>
+        requires { Within self.old (length buffer.old) }
+        ensures within { Within self.new (length buffer.new) }
+        ensures lies { MatchOption result (Unit {0}) (λ s. Lies s (length buffer.new)) }
+    {
+        if let Some(at) = newline(buffer, self.seen, self.end) {
+            return self.line_to(rt, buffer, at);
+        }
+        self.make_room(rt, buffer);
+        if self.state == State::Going {
+            self.read(rt, buffer);
+        }
+        None
     }
 }

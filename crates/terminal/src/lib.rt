@@ -4,6 +4,8 @@
 pub mod hex;
 pub mod input;
 pub mod say;
+pub mod serve;
+pub mod start;
 pub mod under;
 pub mod words;
 
@@ -13,9 +15,5 @@ ghost use Rattle.io.specs.Counts.{IsPrefixLen};
 pub fn entries(count: usize, list: &[u64]) -> usize
     ensures { IsPrefixLen result list.now }
 {
-    if count <= list.len() {
-        count
-    } else {
-        list.len()
-    }
+    count.min(list.len())
 }

@@ -2,8 +2,9 @@
 // a word on standard error.
 ghost use Rattle.io.specs.Counts.{IsPrefixLen};
 
+use answers::line::Line;
 use files::trouble;
-use lines::Fault;
+use lines::Mistake;
 use model::Answer;
 use std::os::fd::{AsFd, BorrowedFd};
 
@@ -60,31 +61,24 @@ pub fn digits(rt: &HostRuntime, n: u64) -> bool {
     rt.write_all(&room[..k]).is_ok()
 }
 
-// The first n bytes of a line.
-pub fn first(rt: &HostRuntime, line: &[u8; answers::ROOM], n: usize) -> bool {
-    let whole = &line[..];
-    let k = files::paths::within(n, whole);
-    text(rt, &whole[..k])
+pub fn line(rt: &HostRuntime, line: &Line) -> bool {
+    text(rt, line.bytes())
 }
 
 pub fn answer(rt: &HostRuntime, a: Answer) -> bool {
-    let mut line = [0u8; answers::ROOM];
-    let n = answers::answer_line(a, &mut line);
-    first(rt, &line, n)
+    line(rt, &answers::answer_line(a))
 }
 
 // Two numbers, and stamps behind them.
 pub fn known(rt: &HostRuntime, a: Answer, one: u64, two: u64, stamps: &[u64]) -> bool {
-    let mut line = [0u8; answers::ROOM];
-    let n = answers::known_line(a, one, two, stamps, &mut line);
-    first(rt, &line, n)
+    line(rt, &answers::known_line(a, one, two, stamps))
 }
 
 // How many bytes a call has written into lent ones: its answer's number, where it is Done.
 pub fn written(a: Answer, lent: &[u8]) -> usize
     ensures { IsPrefixLen result lent.now }
 {
-    if a.code() == 0 {
+    if a.is_done() {
         return files::paths::within(a.number() as usize, lent);
     }
     files::paths::within(0, lent)
@@ -92,29 +86,14 @@ pub fn written(a: Answer, lent: &[u8]) -> usize
 
 // The answer, and behind it the bytes in hex.
 pub fn bytes(rt: &HostRuntime, a: Answer, bytes: &[u8]) -> bool {
-    let mut line = [0u8; answers::ROOM];
-    let n = answers::bytes_line(a, bytes, &mut line);
-    first(rt, &line, n)
+    line(rt, &answers::bytes_line(a, bytes))
 }
 
-fn number_of(fault: Fault) -> u64 {
-    match fault {
-        Fault::Unknown => 0,
-        Fault::Missing => 1,
-        Fault::Digit => 2,
-        Fault::Large => 3,
-        Fault::Equals => 4,
-        Fault::Extra => 5,
-        Fault::Hex => 6,
-        Fault::Long => 7,
-        Fault::Odd => 8,
-    }
-}
-
-pub fn wrong(rt: &HostRuntime, fault: Fault, number: u64, column: usize) -> bool {
-    let mut line = [0u8; answers::ROOM];
-    let n = answers::fault_line(number_of(fault), number, column as u64, &mut line);
-    first(rt, &line, n)
+// The answer to the line of this number, which is no call.
+pub fn wrong(rt: &HostRuntime, mistake: Mistake, number: u64) -> bool {
+    let fault = mistake.fault as u64;
+    let column = mistake.column as u64;
+    line(rt, &answers::fault_line(fault, number, column))
 }
 
 // `? line N`, and what is wrong with the whole of it.
@@ -124,9 +103,7 @@ pub fn wrong_line(rt: &HostRuntime, number: u64, what: &[u8]) -> bool {
 
 // The first word is `opened ` or `refused `.
 pub fn opening(rt: &HostRuntime, word: &[u8], path: &[u8], a: Answer) -> bool {
-    let mut line = [0u8; answers::ROOM];
-    let n = answers::opened_line(a, &mut line);
-    text(rt, word) && text(rt, path) && first(rt, &line, n)
+    text(rt, word) && text(rt, path) && line(rt, &answers::opened_line(a))
 }
 
 // `? `, a name and what is wrong with it.

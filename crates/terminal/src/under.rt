@@ -10,19 +10,18 @@ const STATUS: &str = "/proc/self/fd/3";
 
 // The script was gone before this program could be told to end with it.
 pub fn is_orphan(rt: &HostRuntime) -> bool {
-    let mut word = io::buffer();
-    let n = words::first_bytes(rt, 2, &mut word);
-    paths::number(&word[..n]) != holder::parent(rt)
+    match words::word(rt, 2) {
+        Ok(word) => paths::number(word.bytes()) != holder::parent(rt),
+        Err(_) => holder::parent(rt) != 0,
+    }
 }
 
 fn line_of(status: u64) -> u8 {
-    if status == 0 {
-        return b'0';
+    match status {
+        0 => b'0',
+        1 => b'1',
+        _ => b'2',
     }
-    if status == 1 {
-        return b'1';
-    }
-    b'2'
 }
 
 pub fn tell(rt: &HostRuntime, status: u64) {

@@ -1,7 +1,6 @@
 // The words that a command is started with, and the status that it ends with: 0 where all was served, 1 where a file, a lock or a write
 // failed, 2 for bad usage.
-ghost use Rattle.io.specs.Counts.{IsPrefixLen};
-
+use files::text::Name;
 use files::{paths, trouble};
 use std::env::FillError;
 use std::io::Error;
@@ -12,22 +11,17 @@ const EINVAL: i32 = 22;
 
 const ENAMETOOLONG: i32 = 36;
 
-// Puts a word's bytes at the front of out; how many they are, or why they can't be had.
-pub fn word(rt: &HostRuntime, at: usize, out: &mut [u8]) -> Result<usize, Error> {
-    match rt.arg(at, out) {
-        Ok(n) => Ok(n),
+// A word of those that the program is started with, or why it can't be had.
+pub fn word(rt: &HostRuntime, at: usize) -> Result<Name, Error> {
+    let mut room = io::buffer();
+    match rt.arg(at, &mut room) {
+        Ok(n) => {
+            let mut word = Name::new();
+            word.add(&room[..paths::within(n, &room)]);
+            Ok(word)
+        }
         Err(FillError::NotPresent) => Err(Error::from_raw_os_error(EINVAL)),
         Err(FillError::TooLong) => Err(Error::from_raw_os_error(ENAMETOOLONG)),
-    }
-}
-
-// The same, and no bytes where they can't be had.
-pub fn first_bytes(rt: &HostRuntime, at: usize, out: &mut [u8]) -> usize
-    ensures { IsPrefixLen result out.new }
-{
-    match word(rt, at, out) {
-        Ok(n) => paths::within(n, out),
-        Err(_) => paths::within(0, out),
     }
 }
 
@@ -65,10 +59,7 @@ pub fn misused(rt: &HostRuntime) -> u64 {
 
 // A word that begins like an option is never a file: no mistyped option becomes one.
 fn is_plain(word: &[u8]) -> bool {
-    if word.len() == 0 {
-        return false;
-    }
-    word[0] != b'-'
+    !word.is_empty() && !word.starts_with(b"-")
 }
 
 // Whether the word can be a file's name. If not, there was a word on standard error.

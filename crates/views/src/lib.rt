@@ -26,7 +26,7 @@ pub struct View {
 }
 
 // A value, or its age, which is the stamp that wrote it.
-#[derive(Clone, Copy, PartialEq, Eq)]
+#[derive(Clone, Copy)]
 pub enum Word {
     Value,
     Age,
@@ -224,11 +224,13 @@ fn lay_pasts(t: &PastTable, n: usize, v: ViewAnew, out: &mut [u64])
     requires { (n ≤ 256) × (length out.old ≡ 16) }
     ensures { out.new ≡ lay (covers_b_anew v) (λ q. slot_of q.object) (λ q. part_of_anew v.word (past_seen q)) (take n (pasts t.now)) out.old }
 {
-    for i in (0..n).rev() {
+    let mut i = tables::lookups::trimmed_past(t, n, v.page);
+    // Kept: from row to row of the page; a `for` over all rows took two instructions more for each, a fifth of the whole look.
+    while 0 < i {
+        i -= 1;
         let q = tables::past_at(t, i);
-        if q.object / 16 == v.page {
-            rows::lay_row(q, (q.object % 16) as usize, v, out);
-        }
+        rows::lay_row(q, (q.object % 16) as usize, v, out);
+        i = tables::lookups::trimmed_past(t, i, v.page);
     }
 }
 

@@ -59,18 +59,18 @@ loop-i-preserved c =
     let o = c.pending_at-object.result.object in
     let rows : length es ≡ 128 = pendings_length a.t.now 128 (search rules) in
     let row = get_or v.index o 0 in
-      ⊎_elim
-          (λ (w : New a.t.now a.n v.index v.fresh v.i).
-          let l : o < length v.index = rw w.2.objects_in (low (goal.at.loop-i-preserved c).After-pending_at-object) in
-          let s = any_default v.index o 0 128 l in
-          by_test (marks row)
-          (λ m. inr (omega (arith, and_le_r v.fresh row, ltb-true row 128 m), sym w.1 ∙ again_met 128 marks v.index os v.i (inside (goal.at.loop-i-preserved c).After-pending_at-object) (rw (at (goal.at.loop-i-preserved c).After-pending_at-object, ← s) m)))
-          (λ m.
-          let g = ltb-false row 128 m in
-          inl (
-            rw (w.0, row_none v.index es v.i (omega arith) (omega arith) w.2 o (low (goal.at.loop-i-preserved c).After-pending_at-object) g),
-            rw (← at (goal.at.loop-i-preserved c).After-pending_at-object) (again_new 128 marks v.index os v.i v.i (lt-ltb v.i 128 (omega arith)) (inside (goal.at.loop-i-preserved c).After-pending_at-object) (rw (at (goal.at.loop-i-preserved c).After-pending_at-object) l) (rw (at (goal.at.loop-i-preserved c).After-pending_at-object, ← s) m)) ∙ w.1,
-            index_more v.index es v.i (omega arith) (omega arith) w.2 o (ap (λ e. e.object) (sym c.pending_at-object.ensures)) (low (goal.at.loop-i-preserved c).After-pending_at-object) g,
-          )))
-          (λ (w : Met a.t.now a.n v.fresh). inr (omega (arith, and_le_l v.fresh row, w.0), w.1))
-          v.invariant
+    ⊎_elim
+    (λ (w : New a.t.now a.n v.index v.fresh v.i).
+    let l : o < length v.index = rw w.2.objects_in (low (goal.at.loop-i-preserved c).After-pending_at-object) in
+    let s = any_default v.index o 0 128 l in
+    by_test (marks row)
+    (λ m. inr (omega (arith, and_le_r v.fresh row, ltb-true row 128 m), sym w.1 ∙ again_met 128 marks v.index os v.i (inside (goal.at.loop-i-preserved c).After-pending_at-object) (rw (at (goal.at.loop-i-preserved c).After-pending_at-object, ← s) m)))
+    (λ m.
+    let g = ltb-false row 128 m in
+    inl (
+      rw (w.0, row_none v.index es v.i (omega arith) (omega arith) w.2 o (low (goal.at.loop-i-preserved c).After-pending_at-object) g),
+      rw (← at (goal.at.loop-i-preserved c).After-pending_at-object) (again_new 128 marks v.index os v.i v.i (lt-ltb v.i 128 (omega arith)) (inside (goal.at.loop-i-preserved c).After-pending_at-object) (rw (at (goal.at.loop-i-preserved c).After-pending_at-object) l) (rw (at (goal.at.loop-i-preserved c).After-pending_at-object, ← s) m)) ∙ w.1,
+      index_more v.index es v.i (omega arith) (omega arith) w.2 o (ap (λ e. e.object) (sym c.pending_at-object.ensures)) (low (goal.at.loop-i-preserved c).After-pending_at-object) g,
+    )))
+    (λ (w : Met a.t.now a.n v.fresh). inr (omega (arith, and_le_l v.fresh row, w.0), w.1))
+    v.invariant

@@ -1,5 +1,5 @@
 -- An entry whose object is in the index brings fresh below 128, where it stays; until then every object was new, and the index tells of them all.
-use Prim.Native.Nat.{ℕ, ◌≤◌, ◌<◌, ◌-◌}
+use Prim.Native.Nat.{ℕ, ◌<◌}
 use mathlib.Core.Path.{◌≡◌}
 use mathlib.Core.Bool.{Bool, true}
 use mathlib.Core.List.{List}

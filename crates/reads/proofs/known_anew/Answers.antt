@@ -2,7 +2,7 @@
 use mathlib.Core.Path.{sym, ◌∙◌}
 use borrow.Author.Rules.{rules}
 use native.Mathlib.Omega.{arith}
-use lib.ListN.{length, length-take}
+use lib.ListN.{length-take}
 use Rattle.reads.proofs.Listed.{told_none, told_all, counts_in}
 use Rattle.reads.proofs.known_anew.Goals as goal
 

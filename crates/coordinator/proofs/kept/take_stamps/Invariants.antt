@@ -1,5 +1,5 @@
 -- `kept::take_stamps` meets its contract: those taken, with the rest, are the column; and with how many of the rest rise, as many as rise of all.
-use Prim.Native.Nat.{◌≤◌, ◌-◌, ◌+◌}
+use Prim.Native.Nat.{◌+◌}
 use mathlib.Core.Path.{◌≡◌}
 use mathlib.Core.List.{◌++◌}
 use lib.ListN.{length, take, drop}
@@ -9,10 +9,5 @@ use Rattle.coordinator.proofs.Restarting.{stamps_from}
 use Rattle.coordinator.proofs.kept.take_stamps.Given as goal
 
 abbrev pub invariant-loop-i : goal.invariant-loop-i
-invariant-loop-i l = (l.i ≤ length l.initial.out)
-    × (length l.out ≡ length l.initial.out)
-    × (l.i + risen l.below (stamps_from l.bytes (length l.initial.out) l.i) ≡ risen 0 (column 8 8 (length l.initial.out) (drop 10 l.bytes)))
+invariant-loop-i l = (l.i + risen l.below (stamps_from l.bytes (length l.initial.out) l.i) ≡ risen 0 (column 8 8 (length l.initial.out) (drop 10 l.bytes)))
     × (take l.i l.out ++ stamps_from l.bytes (length l.initial.out) l.i ≡ column 8 8 (length l.initial.out) (drop 10 l.bytes))
-
-abbrev pub decreases-loop-i : goal.decreases-loop-i
-decreases-loop-i l = length l.initial.out - l.i

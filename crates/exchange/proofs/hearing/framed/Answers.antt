@@ -9,12 +9,12 @@ returns-then-bytes-lt-STAMPS_AT c = too_short c.args.bytes.now c.if-bytes-lt-STA
 pub returns-then-length-bytes : goal.returns-then-length-bytes
 returns-then-length-bytes c = other_length c.args.bytes.now (λ e. c.if-length-bytes.true (c.get_be-length.ensures ∙ e))
 
-pub returns-then-bytes-ne2 : goal.returns-then-bytes-ne2
-returns-then-bytes-ne2 c = other_kind c.args.bytes.now c.if-bytes-ne2.true
+pub returns-then-bytes : goal.returns-then-bytes
+returns-then-bytes c = other_kind c.args.bytes.now c.if-bytes.true
 
 pub returns-then-count-gt16 : goal.returns-then-count-gt16
 returns-then-count-gt16 c = too_many c.args.bytes.now c.if-count-gt16.true
 
 pub returns : goal.returns
 returns c =
-    by_size c.args.bytes.now c.if-bytes-lt-STAMPS_AT.false (sym c.get_be-length.ensures ∙ c.if-length-bytes.false) c.if-bytes-ne2.false c.if-count-gt16.false
+    by_size c.args.bytes.now c.if-bytes-lt-STAMPS_AT.false (sym c.get_be-length.ensures ∙ c.if-length-bytes.false) c.if-bytes.false c.if-count-gt16.false

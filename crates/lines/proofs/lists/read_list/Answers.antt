@@ -1,20 +1,19 @@
 -- `lists::read_list` meets its contract: what is stored, with what is left to read, is the whole list.
 use Rattle.lines.proofs.Storing.{list_turn}
-use Rattle.lines.proofs.Taking.{bytes_of, word_there}
+use Rattle.lines.specs.Promises.{bytes_of, ahead}
 use Rattle.lines.specs.Words.{words_from}
-use mathlib.Core.Path.{sym, ◌∙◌}
 use Prim.Native.Nat.{◌+◌}
+use mathlib.Core.Path.{sym, ◌∙◌}
 use Rattle.lines.proofs.lists.read_list.Goals as goal
 
-pub loop-row-preserved : goal.loop-row-preserved
-loop-row-preserved c = let v = c.loop-row in
-    let a = c.args in
-    let n = c.next_word-span.ensures in
-    let s = c.next_word-span.result in
-    let e = c.keep-count.ensures in (
-      n.within,
-      list_turn a.row (words_from a.text.now v.at) v.invariant.1 (s.from + 1) (bytes_of a.text.now s) (words_from a.text.now s.to)
-          (n.some (word_there a.text.now v.at s n c.if-from-to.false))
-          (sym c.item_at-item.ensures ∙ c.in-Pair.is)
-          _ _ _ e.value e.firsts_after e.seconds_after,
-    )
+pub loop-span-preserved : goal.loop-span-preserved
+loop-span-preserved c =
+    let v = c.loop-span in
+    let text = v.words.text.now in
+    let s = c.in-Some.span in
+    let n = c.in-Some.ensures in
+    let i = rw n.text at c.item_at.ensures in
+    let e = c.keep-count.ensures in
+    rw (n.text, n.behind)
+    (list_turn c.args.row (ahead v.words) v.invariant (s.from + 1) (bytes_of text s) (words_from text s.to) n.stands.words
+    (sym i ∙ c.in_ok-a.was) _ _ _ e.value e.firsts_after e.seconds_after)

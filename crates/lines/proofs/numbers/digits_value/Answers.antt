@@ -4,7 +4,8 @@ use native.Mathlib.Omega.{arith}
 use Rattle.lines.proofs.numbers.digits_value.Goals as goal
 
 pub returns-then-x-n : goal.returns-then-x-n
-returns-then-x-n c = let a = c.args in
-    let v = c.loop-i in
+returns-then-x-n c =
+    let a = c.args in
+    let v = c.loop-b in
     let x = c.digit_value-x.ensures in
-    digit_large a.word.now v.n v.i v.invariant.2 a.column c.loop-i-test.true (omega arith)
+    rw c.at.ensures (digit_large a.word.now v.n v.b-index v.invariant.1 a.column (omega arith) (omega arith))

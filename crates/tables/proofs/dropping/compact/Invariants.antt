@@ -1,5 +1,4 @@
 -- Of the first i rows, those that stay are at the front, k of them.
-use Rattle.std.proofs.Common.{◌≤◌, ◌-◌}
 use Rattle.tables.specs.Compaction.{Compacted}
 use Rattle.tables.proofs.dropping.compact.Given as goal
 

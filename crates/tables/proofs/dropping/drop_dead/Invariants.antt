@@ -1,5 +1,5 @@
 -- Of the rows passed, those that stay are in front; the rows not passed yet are as they were.
-use Prim.Native.Nat.{ℕ, ◌≤◌, ◌-◌}
+use Prim.Native.Nat.{ℕ, ◌≤◌}
 use mathlib.Core.Bool.{Bool}
 use mathlib.Core.Path.{◌≡◌}
 use mathlib.Core.List.{List}

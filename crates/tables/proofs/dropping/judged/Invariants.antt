@@ -1,5 +1,5 @@
 -- The rows judged so far are judged by the test, and the last search is kept with the end that it was made for.
-use Prim.Native.Nat.{ℕ, ◌≤◌, ◌-◌}
+use Prim.Native.Nat.{ℕ}
 use mathlib.Core.Bool.{Bool}
 use mathlib.Core.Path.{◌≡◌}
 use mathlib.Core.List.{List, map}

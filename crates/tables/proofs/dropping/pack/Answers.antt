@@ -1,10 +1,10 @@
 -- The table is as it was, with the rows written so far in it.
 use Prim.Native.Nat.{◌+◌}
-use mathlib.Core.Path.{◌≡◌, sym, ap, ◌∙◌}
+use mathlib.Core.Path.{sym, ap, ◌∙◌}
 use mathlib.Core.List.{List}
 use native.Mathlib.Numerals.{add-one}
 use native.Mathlib.Omega.{arith}
-use lib.ListN.{length, get_or, set}
+use lib.ListN.{get_or, set}
 use lib.Seq.{paste, paste-suc}
 use Rattle.model.specs.declared.Past.{Past}
 use Rattle.tables.specs.Rows.{pasts}

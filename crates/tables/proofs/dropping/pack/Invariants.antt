@@ -1,7 +1,5 @@
 -- The table is as it was, with the rows written so far in it.
-use Prim.Native.Nat.{◌≤◌, ◌-◌}
 use mathlib.Core.Path.{◌≡◌}
-use lib.ListN.{length}
 use lib.Seq.{paste}
 use Rattle.tables.specs.Rows.{pasts}
 use Rattle.tables.proofs.dropping.pack.Given as goal

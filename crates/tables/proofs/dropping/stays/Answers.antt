@@ -1,6 +1,6 @@
 -- Beyond the horizon, or wanted beyond the mark of the page.
 use Prim.Native.Nat.{◌≤◌, ◌/◌}
-use mathlib.Core.Path.{◌≡◌, refl, ◌∙◌, sym}
+use mathlib.Core.Path.{◌≡◌, ◌∙◌, sym}
 use native.Mathlib.Omega.{arith}
 use lib.ListN.{length, get_or, get_or-eq_default}
 use Rattle.tables.proofs.Living.{stays_last}

@@ -1,5 +1,4 @@
 -- The rows copied so far are those of the table, from the first asked for on.
-use Prim.Native.Nat.{◌≤◌, ◌-◌}
 use mathlib.Core.Path.{◌≡◌}
 use lib.ListN.{length, take, drop}
 use Rattle.tables.specs.Rows.{pasts}

@@ -1,5 +1,5 @@
 -- From the last row to the first, the page's mark by the copies passed is before the stamp.
-use Prim.Native.Nat.{ℕ, ◌≤◌, ◌<◌}
+use Prim.Native.Nat.{ℕ, ◌<◌}
 use mathlib.Core.List.{List}
 use Rattle.tables.specs.Rows.{copy_heads}
 use Rattle.tables.proofs.Marks.{mark_from}

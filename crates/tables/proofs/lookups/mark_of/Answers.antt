@@ -1,10 +1,9 @@
 -- From the page's last row to its first, `best` is the page's mark by the copies passed.
-use Prim.Native.Nat.{ℕ, ◌-◌, ◌≤◌}
+use Prim.Native.Nat.{ℕ, ◌-◌}
 use mathlib.Core.List.{List}
-use mathlib.Core.Path.{◌≡◌, ◌∙◌, ap, refl}
+use mathlib.Core.Path.{◌≡◌, ◌∙◌, ap}
 use native.Mathlib.Omega.{arith}
 use borrow.Author.Rules.{rules}
-use lib.ListN.{length}
 use Rattle.tables.specs.Rows.{copy_heads}
 use Rattle.tables.proofs.Rows.{copies_length}
 use Rattle.tables.proofs.Backward.{Turn}

@@ -1,9 +1,8 @@
 -- From the last row to the first, `marks` holds each page's mark by the copies passed.
 use Prim.Native.Nat.{◌<◌}
-use mathlib.Core.List.{List}
 use mathlib.Core.Path.{◌≡◌, ◌∙◌, ap}
 use native.Mathlib.Omega.{arith}
-use lib.ListN.{length, length-set, replicate}
+use lib.ListN.{length-set, replicate}
 use borrow.Author.Rules.{rules}
 use Rattle.tables.specs.Rows.{copy_heads}
 use Rattle.tables.proofs.Backward.{Turn}

@@ -1,5 +1,5 @@
 -- From the last row to the first, `marks` holds each page's mark by the copies passed.
-use Prim.Native.Nat.{ℕ, ◌≤◌}
+use Prim.Native.Nat.{ℕ}
 use mathlib.Core.List.{List}
 use mathlib.Core.Path.{◌≡◌}
 use lib.ListN.{length, get_or}

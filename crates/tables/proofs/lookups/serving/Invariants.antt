@@ -1,5 +1,4 @@
 -- From the last row to the first, the code holds the oldest serving copy of the rows passed, or that there is none.
-use Prim.Native.Nat.{◌≤◌}
 use Rattle.tables.specs.Rows.{copy_heads}
 use Rattle.tables.proofs.Oldest.{Held}
 use Rattle.tables.proofs.lookups.serving.Given as goal

@@ -1,8 +1,0 @@
--- `known_line` meets its contract: its parts one behind another are the line.
-use Rattle.answers.specs.Says.{known_line}
-use Rattle.answers.proofs.Puts.{put_then, said}
-use Rattle.answers.proofs.known_line.Goals as goal
-
-pub returns : goal.returns
-unfolding known_line
-returns c = said (put_then (put_then c.answered-a.ensures.0 c.known-b.ensures.0) c.bytes.ensures)
