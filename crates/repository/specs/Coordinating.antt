@@ -4,7 +4,7 @@ use Rattle.model.specs.declared.Answer.TheVariants.{Done}
 use Rattle.model.specs.Answers.{code_of, number_of}
 use Rattle.model.specs.Coordinator.{Coordinator, fresh_coordinator, Granting, Messaged}
 use Rattle.model.specs.CoordinatorBytes.{RestartedCoordinator}
-use Rattle.repository.specs.declared.Reply.{Reply}
+use Rattle.repository.specs.declared.replies.Reply.{Reply}
 
 -- a grant: code, number, what is held
 pub record Granted (x : Granting) (r : Reply) (state : Coordinator) : Type 0 where

@@ -7,10 +7,10 @@ use Rattle.model.specs.Calls.{Outcome}
 use Rattle.model.specs.Reads as reads
 use Rattle.model.specs.Restart as starts
 use Rattle.reads.specs.Knows.{padded}
-use Rattle.repository.specs.declared.Moved.{Moved}
-use Rattle.repository.specs.declared.Reply.{Reply}
-use Rattle.repository.specs.declared.Report.{Report}
-use Rattle.repository.specs.declared.Knowledge.{Knowledge}
+use Rattle.repository.specs.declared.replies.Moved.{Moved}
+use Rattle.repository.specs.declared.replies.Reply.{Reply}
+use Rattle.repository.specs.declared.replies.Report.{Report}
+use Rattle.repository.specs.declared.replies.Knowledge.{Knowledge}
 
 -- an answer and a place, as the caller is told them
 pub record Told (answer : Answer) (place : ℕ) (r : Moved) : Type 0 where
