@@ -1,5 +1,6 @@
 // A coordinator's calls, as lines of input.
-pub const LINES: &[u8] = b"# 1. node 5 asks for a snapshot at tick 1: it is granted, with the stamp 256 x 1 + 5
+pub const LINES: &[u8] =
+    b"# 1. node 5 asks for a snapshot at tick 1: it is granted, with the stamp 256 x 1 + 5
 grant 1 5
 # 2. the same again is late: 261 is the largest stamp granted
 grant 1 5

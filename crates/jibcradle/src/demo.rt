@@ -1,5 +1,6 @@
 // Document 01's worked night, as lines of input.
-pub const LINES: &[u8] = b"# 1. a commit stamped 100 gives object 0 the value 7; the journal now has 23 bytes
+pub const LINES: &[u8] =
+    b"# 1. a commit stamped 100 gives object 0 the value 7; the journal now has 23 bytes
 commit 100 0=7
 # 2. the same stamp again is late: 100 is the last commit
 commit 100 0=7

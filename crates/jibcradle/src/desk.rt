@@ -19,12 +19,15 @@ const REQUEST: usize = 19;
 
 const CURR: usize = 11;
 
+// The most bytes of a journal, and one more.
+pub const ROOM: usize = 65536;
+
 // A store at work: its journal, up to where it is used, and the journal's file, or none in memory. The one byte more than a journal
 // may have shows a file that is longer.
 #[derive(Drop)]
 pub struct Keeper<'a> {
     pub store: Store,
-    pub journal: [u8; 65536],
+    pub journal: [u8; ROOM],
     pub place: Place,
     pub path: &'a [u8],
     pub file: Option<File>,
@@ -38,56 +41,47 @@ fn curr_of(message: &[u8]) -> u64 {
     fields::get_be(message, CURR, 8)
 }
 
-impl<'a> Keeper<'a> {
-    pub fn new(path: &'a [u8], file: Option<File>) -> Keeper<'a> {
-        Keeper {
-            store: Store::empty(),
-            journal: [0; 65536],
-            place: Place { at: 0 },
-            path,
-            file,
+// Commit, gossip and flush. No other call comes here.
+fn changed(
+    store: &mut Store,
+    journal: &mut [u8; ROOM],
+    used: Place,
+    call: Call,
+    listed: &Listed,
+) -> ChangedAnew {
+    let journal = &mut journal[..room::MOST];
+    match call {
+        Call::Commit(t, count) => {
+            let n = entries(count, &listed.firsts);
+            let m = entries(count, &listed.seconds);
+            let objects = &listed.firsts[..n];
+            committing::commit_anew(store, journal, used, t, objects, &listed.seconds[..m])
         }
+        Call::Gossip(prev, curr, count) => {
+            let n = entries(count, &listed.firsts);
+            gossiping::gossip_anew(store, journal, used, prev, curr, &listed.firsts[..n])
+        }
+        Call::Flush(page) => flushing::flush_anew(store, journal, used, page),
+        _ => ChangedAnew {
+            answer: Answer::Nothing(0),
+            place: used,
+        },
     }
 }
 
-impl Keeper<'_> {
-    // Commit, gossip and flush. No other call comes here.
-    fn change(&mut self, call: Call, listed: &Listed) -> ChangedAnew {
-        let store = &mut self.store;
-        let journal = &mut self.journal[..room::MOST];
-        let used = self.place;
-        match call {
-            Call::Commit(t, count) => {
-                let n = entries(count, &listed.firsts);
-                let m = entries(count, &listed.seconds);
-                committing::commit_anew(
-                    store,
-                    journal,
-                    used,
-                    t,
-                    &listed.firsts[..n],
-                    &listed.seconds[..m],
-                )
-            }
-            Call::Gossip(prev, curr, count) => {
-                let n = entries(count, &listed.firsts);
-                gossiping::gossip_anew(store, journal, used, prev, curr, &listed.firsts[..n])
-            }
-            Call::Flush(page) => flushing::flush_anew(store, journal, used, page),
-            _ => ChangedAnew {
-                answer: Answer::Nothing(0),
-                place: used,
-            },
-        }
-    }
+// A message that a coordinator wrote.
+fn heard(store: &mut Store, journal: &mut [u8; ROOM], used: Place, message: &[u8]) -> ChangedAnew {
+    hearing::hear_anew(store, &mut journal[..room::MOST], used, message)
+}
 
+impl Keeper<'_> {
     // A change that was made is answered once its record is in the file.
     fn settle(&mut self, rt: &HostRuntime, done: ChangedAnew) -> Result<(), Stop> {
         let old = self.place.at;
         let new = done.place.at;
         if done.answer.is_done() {
             let file = self.file.as_ref();
-            given(file::is_saved(rt, self.path, file, &self.journal, old, new))?;
+            given(file::is_saved(rt, self.path, file, &self.journal[..room::MOST], old, new))?;
         }
         let said = terminal::say::answer(rt, done.answer);
         if self.file.is_some() {
@@ -149,10 +143,9 @@ impl Keeper<'_> {
         }
     }
 
-    // A message that a coordinator wrote.
+    // A message is answered as a change, or by what is to be asked for.
     fn hear(&mut self, rt: &HostRuntime, message: &[u8]) -> Result<(), Stop> {
-        let journal = &mut self.journal[..room::MOST];
-        let done = hearing::hear_anew(&mut self.store, journal, self.place, message);
+        let done = heard(&mut self.store, &mut self.journal, self.place, message);
         if let Answer::Gap(_) = done.answer {
             return given(self.is_asked(rt, Some(done.answer), curr_of(message)));
         }
@@ -174,7 +167,11 @@ impl Keeper<'_> {
                 let started = restart::fresh_anew(&mut self.store);
                 self.renew(rt, started)
             }
-            Err(NotRenewed::Barred) => given(terminal::say::refused(rt, path, b".old is in the way")),
+            Err(NotRenewed::Barred) => given(terminal::say::refused(
+                rt,
+                path,
+                b".old is in the way",
+            )),
             Err(NotRenewed::Linked) => given(terminal::say::refused(
                 rt,
                 path,
@@ -188,10 +185,7 @@ impl Keeper<'_> {
     fn cut(&mut self, rt: &HostRuntime, to: usize) -> Result<(), Stop> {
         let used = self.place.at;
         if self.file.is_some() {
-            return given(terminal::say::text(
-                rt,
-                b"? cut is for a journal in memory\n",
-            ));
+            return given(terminal::say::text(rt, b"? cut is for a journal in memory\n"));
         }
         if used < to {
             return given(say::refused_beyond(rt, used as u64));
@@ -227,7 +221,13 @@ impl Desk for Keeper<'_> {
                 | Call::Standing),
             ) => given(self.is_shown(rt, call)),
             Ok(call @ (Call::Commit(_, _) | Call::Gossip(_, _, _) | Call::Flush(_))) => {
-                let done = self.change(call, &listed);
+                let done = changed(
+                    &mut self.store,
+                    &mut self.journal,
+                    self.place,
+                    call,
+                    &listed,
+                );
                 self.settle(rt, done)
             }
         }

@@ -4,13 +4,21 @@ use crate::desk::Keeper;
 use files::{file, fit, lock, paths, room};
 use model::Answer;
 use std::fs::File;
+use tables::Store;
 use terminal::input::Source;
 use terminal::{say, serve};
 
 // The store of a journal that was read: what lies behind its last whole record is kept elsewhere and cut off the file, since a
 // shorter record written over it would leave a rest; and the file is synced, since a record from before a kill may be in it and not
 // yet there for good. A journal that is refused stays as it is.
-fn is_opened(rt: &HostRuntime, path: &[u8], file: &File, read: &[u8], answer: Answer, end: usize) -> bool {
+fn is_opened(
+    rt: &HostRuntime,
+    path: &[u8],
+    file: &File,
+    read: &[u8],
+    answer: Answer,
+    end: usize,
+) -> bool {
     if !answer.is_done() {
         say::opening(rt, b"refused ", path, answer);
         return false;
@@ -23,19 +31,33 @@ fn is_opened(rt: &HostRuntime, path: &[u8], file: &File, read: &[u8], answer: An
 }
 
 // A store from its start to its end. The input is standard input, or the night's lines.
-fn is_served(rt: &HostRuntime, path: &[u8], file: Option<File>, source: Source, laid: &[u8]) -> bool {
-    let mut keeper = Keeper::new(path, file);
-    let Some(count) = file::read(rt, path, keeper.file.as_ref(), &mut keeper.journal) else {
+fn is_served(
+    rt: &HostRuntime,
+    path: &[u8],
+    file: Option<File>,
+    source: Source,
+    laid: &[u8],
+) -> bool {
+    let mut journal = io::large_buffer();
+    let Some(count) = file::read(rt, path, file.as_ref(), &mut journal) else {
         return false;
     };
-    let n = paths::within(count, &keeper.journal);
-    let started = restart::restart_anew(&mut keeper.store, &keeper.journal[..n]);
-    keeper.place = started.place;
-    if let Some(file) = keeper.file.as_ref() {
-        if !is_opened(rt, path, file, &keeper.journal[..n], started.answer, started.place.at) {
+    let n = paths::within(count, &journal);
+    let mut store = Store::empty();
+    let started = restart::restart_anew(&mut store, &journal[..n]);
+    let place = started.place;
+    if let Some(file) = &file {
+        if !is_opened(rt, path, file, &journal[..n], started.answer, place.at) {
             return false;
         }
     }
+    let mut keeper = Keeper {
+        store,
+        journal,
+        place,
+        path,
+        file,
+    };
     serve::is_served(rt, &mut keeper, source, laid)
 }
 
