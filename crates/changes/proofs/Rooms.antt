@@ -77,11 +77,11 @@ empty_idle : (st : Store) (p : ℕ) → st.pending ≡ [] → st.snapshots ≡ [
 unfolding judge_flush
 empty_idle st p e f = rw (e, f)
 
-pub flush_idle_anew : (s : whole.Store) (p : ℕ) → s.heads.pending + s.heads.snapshots ≡ 0 → Idle ≡ judge_flush (stored s) p
-flush_idle_anew s p e = empty_idle (stored s) p (up_to_none _ s.heads.pending _ (omega arith)) (up_to_none _ s.heads.snapshots _ (omega arith))
+pub flush_idle : (s : whole.Store) (p : ℕ) → s.heads.pending + s.heads.snapshots ≡ 0 → Idle ≡ judge_flush (stored s) p
+flush_idle s p e = empty_idle (stored s) p (up_to_none _ s.heads.pending _ (omega arith)) (up_to_none _ s.heads.snapshots _ (omega arith))
 
 -- ---- the room for a message's new stamps, by the count that the heads have
-pub gossip_room_anew : (s : whole.Store) (prev curr : ℕ) (stamps : List ℕ) → judge_gossip (stored s) prev curr stamps ≡ Accepted
+pub gossip_room : (s : whole.Store) (prev curr : ℕ) (stamps : List ℕ) → judge_gossip (stored s) prev curr stamps ≡ Accepted
     → s.heads.snapshots + length (kept (ltb s.heads.horizon) stamps) ≤ 64
-gossip_room_anew s prev curr stamps e =
+gossip_room s prev curr stamps e =
     rw (up_to_length 0 s.heads.snapshots s.snapshots) at (gossips.accepted_room (stored s) prev curr stamps e)

@@ -17,7 +17,7 @@ use Rattle.tables.proofs.Bridges.{pages_in}
 use Rattle.tables.proofs.Cases.{by_test, clash}
 use Rattle.tables.proofs.Copies.{no_copy}
 use Rattle.tables.proofs.Fronts.{any_front, twice_front, rising_front}
-use Rattle.damage.specs.Sifted.{SiftedAnew}
+use Rattle.damage.specs.Sifted.{Sifted}
 use Rattle.damage.proofs.Laws.{over_count, counted, damaged_over, lone}
 
 either_none : (a b : Bool) → either a b ≡ false → (a ≡ false) × (b ≡ false)
@@ -59,8 +59,8 @@ sound s e =
     }
 
 -- without entries the tests of the ranges are all there are
-pub none_damaged_anew : (s : Store) {out : Bool} → SiftedAnew out s → s.heads.pending ≡ 0 → damaged (stored s) ≡ out
-none_damaged_anew s {out} f e =
+pub none_damaged : (s : Store) {out : Bool} → Sifted out s → s.heads.pending ≡ 0 → damaged (stored s) ≡ out
+none_damaged s {out} f e =
     by_test out
     (λ t. f.hit t ∙ sym t)
     (λ t. f.left t ∙ lone s.heads.pending (pendings s.written.pending) (omega arith) ∙ sym t)

@@ -21,12 +21,12 @@ pub fn add(
     ensures made { Made (commit_call (stored store.old) journal.old used.at t objects.now values.now) result (stored store.new) journal.new used.at }
     ensures kept { CommitKept store.old store.new }
 {
-    if damage::out_of_range_anew(store) {
+    if damage::out_of_range(store) {
         return Err(Answer::Damaged);
     }
     crate::committing::formed(journal, used, objects, values)?;
-    let verdict = commits::judge_with_room_anew(store, t);
-    crate::settling::settled_anew(verdict, journal, used, 10 + 10 * objects.len())?;
-    commits::add_all_anew(store, t, objects, values);
+    let verdict = commits::judge_with_room(store, t);
+    crate::settling::settled(verdict, journal, used, 10 + 10 * objects.len())?;
+    commits::add_all(store, t, objects, values);
     Ok(used.append_commit(journal, t, objects, values))
 }

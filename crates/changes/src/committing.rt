@@ -9,7 +9,7 @@ ghost use Rattle.tables.specs.Contents.{stored};
 ghost use Rattle.changes.specs.Left.{Left, Made, Formed};
 ghost use Rattle.changes.specs.Kept.{CommitKept};
 
-use crate::settling::ChangedAnew;
+use crate::settling::Changed;
 use journal::place::Place;
 use model::Answer;
 use tables::Store;
@@ -51,25 +51,25 @@ fn rewrite(
     ensures kept { CommitKept store.old store.new }
 {
     let mut index = [128u8; 512];
-    if damage::damaged_or_indexed_anew(store, &mut index) {
+    if damage::damaged_or_indexed(store, &mut index) {
         return Err(Answer::Damaged);
     }
     formed(journal, used, objects, values)?;
     let verdict = commits::fitting::judge(store, t, objects, &index);
-    crate::settling::settled_anew(verdict, journal, used, 10 + 10 * objects.len())?;
-    commits::apply_commit_anew(store, t, objects, values, &mut index);
+    crate::settling::settled(verdict, journal, used, 10 + 10 * objects.len())?;
+    commits::apply_commit(store, t, objects, values, &mut index);
     Ok(used.append_commit(journal, t, objects, values))
 }
 
 // Writes the objects' values at the stamp t.
-pub fn commit_anew(
+pub fn commit(
     store: &mut Store,
     journal: &mut [u8],
     used: Place,
     t: u64,
     objects: &[u64],
     values: &[u64],
-) -> ChangedAnew
+) -> Changed
     ensures left { Left (commit_call (stored store.old) journal.old used.at t objects.now values.now) result.answer (stored store.new) journal.new result.place.at }
     ensures kept { CommitKept store.old store.new }
 {
@@ -78,5 +78,5 @@ pub fn commit_anew(
     } else {
         rewrite(store, journal, used, t, objects, values)
     };
-    ChangedAnew::told(made, used)
+    Changed::told(made, used)
 }

@@ -5,8 +5,8 @@ ghost use Rattle.tables.specs.Contents.{stored};
 ghost use Rattle.changes.specs.Left.{Left, Made};
 ghost use Rattle.changes.specs.Kept.{FlushKept};
 
-use crate::settling::ChangedAnew;
-use flushes::PlanAnew;
+use crate::settling::Changed;
+use flushes::Plan;
 use journal::place::Place;
 use model::Answer;
 use tables::Store;
@@ -21,7 +21,7 @@ fn flush_page(
     ensures made { Made (flush_call (stored store.old) journal.old used.at page) result (stored store.new) journal.new used.at }
     ensures kept { FlushKept store.old store.new }
 {
-    if damage::damaged_anew(store) {
+    if damage::damaged(store) {
         return Err(Answer::Damaged);
     }
     if !crate::settling::journal_shaped(journal, used) {
@@ -35,17 +35,17 @@ fn flush_page(
     if h.pending + h.snapshots == 0 {
         return Err(Answer::Nothing(used.at as u64));
     }
-    let mut plan = PlanAnew::empty();
-    let verdict = flushes::judge_flush_anew(store, page, &mut plan);
-    crate::settling::settled_anew(verdict, journal, used, 2)?;
-    flushes::apply_flush_anew(store, page, &plan);
+    let mut plan = Plan::empty();
+    let verdict = flushes::judge_flush(store, page, &mut plan);
+    crate::settling::settled(verdict, journal, used, 2)?;
+    flushes::apply_flush(store, page, &plan);
     Ok(used.append_flush(journal, page))
 }
 
 // Flushes a page: copies for the due snapshots, and its pending values to disk.
-pub fn flush_anew(store: &mut Store, journal: &mut [u8], used: Place, page: u64) -> ChangedAnew
+pub fn flush(store: &mut Store, journal: &mut [u8], used: Place, page: u64) -> Changed
     ensures left { Left (flush_call (stored store.old) journal.old used.at page) result.answer (stored store.new) journal.new result.place.at }
     ensures kept { FlushKept store.old store.new }
 {
-    ChangedAnew::told(flush_page(store, journal, used, page), used)
+    Changed::told(flush_page(store, journal, used, page), used)
 }

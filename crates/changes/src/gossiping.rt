@@ -7,14 +7,14 @@ ghost use Rattle.tables.specs.Contents.{stored};
 ghost use Rattle.changes.specs.Left.{Left, Made};
 ghost use Rattle.changes.specs.Kept.{GossipKept};
 
-use crate::settling::ChangedAnew;
+use crate::settling::Changed;
 use journal::place::Place;
 use model::Answer;
 use tables::Store;
 
 // What is left where damage and shape are tested: the store's verdict, the journal's room, and the two writers.
 #[inline(always)]
-pub fn take_anew(
+pub fn take(
     store: &mut Store,
     journal: &mut [u8],
     used: Place,
@@ -27,9 +27,9 @@ pub fn take_anew(
     ensures made { Made (gossip_call (stored store.old) journal.old used.at prev curr stamps.now) result (stored store.new) journal.new used.at }
     ensures kept { GossipKept store.old store.new }
 {
-    let verdict = gossips::judge_gossip_anew(store, prev, curr, stamps);
-    crate::settling::settled_anew(verdict, journal, used, 18 + 8 * stamps.len())?;
-    gossips::apply_gossip_anew(store, curr, stamps);
+    let verdict = gossips::judge_gossip(store, prev, curr, stamps);
+    crate::settling::settled(verdict, journal, used, 18 + 8 * stamps.len())?;
+    gossips::apply_gossip(store, curr, stamps);
     Ok(used.append_gossip(journal, prev, curr, stamps))
 }
 
@@ -45,7 +45,7 @@ fn tested(
     ensures made { Made (gossip_call (stored store.old) journal.old used.at prev curr stamps.now) result (stored store.new) journal.new used.at }
     ensures kept { GossipKept store.old store.new }
 {
-    if damage::damaged_anew(store) {
+    if damage::damaged(store) {
         return Err(Answer::Damaged);
     }
     if !crate::settling::journal_shaped(journal, used) {
@@ -54,20 +54,20 @@ fn tested(
     if !rules::stamps_shaped(prev, curr, stamps) {
         return Err(Answer::Shape);
     }
-    take_anew(store, journal, used, prev, curr, stamps)
+    take(store, journal, used, prev, curr, stamps)
 }
 
 // Takes a gossip message: its stamps beyond the horizon become known snapshots, and the horizon moves.
-pub fn gossip_anew(
+pub fn gossip(
     store: &mut Store,
     journal: &mut [u8],
     used: Place,
     prev: u64,
     curr: u64,
     stamps: &[u64],
-) -> ChangedAnew
+) -> Changed
     ensures left { Left (gossip_call (stored store.old) journal.old used.at prev curr stamps.now) result.answer (stored store.new) journal.new result.place.at }
     ensures kept { GossipKept store.old store.new }
 {
-    ChangedAnew::told(tested(store, journal, used, prev, curr, stamps), used)
+    Changed::told(tested(store, journal, used, prev, curr, stamps), used)
 }

@@ -11,23 +11,23 @@ use model::{Answer, Verdict};
 
 // What a change hands back: the answer, and the place for the next call.
 #[derive(Clone, Copy)]
-pub struct ChangedAnew {
+pub struct Changed {
     pub answer: Answer,
     pub place: Place,
 }
 
-impl ChangedAnew {
+impl Changed {
     // A change that was made goes on behind its record, a refused one where it was called.
     #[inline(always)]
-    pub fn told(made: Result<Place, Answer>, used: Place) -> ChangedAnew
+    pub fn told(made: Result<Place, Answer>, used: Place) -> Changed
         ensures { MatchResult made (λ p. result ≡ record { answer = Done p.at; place = p }) (λ a. result ≡ record { answer = a; place = used }) }
     {
         match made {
-            Ok(place) => ChangedAnew {
+            Ok(place) => Changed {
                 answer: Answer::Done(place.at as u64),
                 place,
             },
-            Err(answer) => ChangedAnew {
+            Err(answer) => Changed {
                 answer,
                 place: used,
             },
@@ -44,12 +44,7 @@ pub fn journal_shaped(journal: &[u8], used: Place) -> bool
 
 // A verdict with the journal's room, the last test. `length` is what the record's length field says.
 #[inline(always)]
-pub fn settled_anew(
-    verdict: Verdict,
-    journal: &[u8],
-    used: Place,
-    length: usize,
-) -> Result<(), Answer>
+pub fn settled(verdict: Verdict, journal: &[u8], used: Place, length: usize) -> Result<(), Answer>
     requires { (length ≤ 170) × (used.at ≤ 65535) }
     ensures { (c : Change) → length_of c ≡ length → Settled verdict journal.now used.at c result }
 {

@@ -20,7 +20,7 @@ use Rattle.tables.proofs.Bridges.{opened}
 use Rattle.tables.proofs.Cases.{by_test, clash}
 use Rattle.tables.proofs.Counts.{up_to_length, up_to_take}
 use Rattle.commits.specs.Rows.{new_b, new_in}
-use Rattle.commits.specs.Promises.{Room, AppliedAnew, with_pending, stamped, opened_all}
+use Rattle.commits.specs.Promises.{Room, Applied, with_pending, stamped, opened_all}
 use Rattle.commits.proofs.Distinct.{once_rest, map_off, lookup_other}
 
 opened_length : (t : ℕ) (os vs : List ℕ) → length (opened_all t os vs) ≤ length os
@@ -114,7 +114,7 @@ module _ (t : ℕ) (os vs : List ℕ) where
 
   -- the store after the commit holds them
   pub entered_all : {s : tables.Store} → s.heads.pending ≡ 0 → Counted s.heads → length os ≤ 16 → twice_b os ≡ false → (pending : List (List ℕ)) → up_to (pending_of []) (length os) (pendings pending) ≡ opened_all t os vs
-      → AppliedAnew s (stamped (with_pending s pending (length os)) t) t (paired os vs)
+      → Applied s (stamped (with_pending s pending (length os)) t) t (paired os vs)
   unfolding last_at
   entered_all {s} e c m d pending f = record {
     contains = ap (holding (last_at (stored s) t)) f ∙ sym (commit_new t os vs (stored s) (none_pending s.written.pending s.heads e) d);

@@ -15,7 +15,7 @@ use Rattle.tables.specs.declared.Store.{Store}
 use Rattle.tables.specs.Rows.{pendings}
 use Rattle.tables.specs.Lookups.{find_pending, Indexed}
 use Rattle.tables.specs.Contents.{stored, Counted}
-use Rattle.commits.specs.Promises.{ReadyAnew, Room, AppliedAnew, WroteAnew, Untouched, Sound, entries, stamped}
+use Rattle.commits.specs.Promises.{Ready, Room, Applied, Wrote, Untouched, Sound, entries, stamped}
 use Rattle.commits.proofs.Growth.{all_grown}
 use Rattle.commits.proofs.Finding.{indexed_over, indexed_new}
 use Rattle.commits.proofs.Distinct.{low}
@@ -62,7 +62,7 @@ untouched_both u v = record {
   copy_count = v.copy_count ∙ u.copy_count;
 }
 
-pub written_start : (t : ℕ) (vs : List ℕ) {s : Store} {os index : List ℕ} → ReadyAnew s os index → length (pendings s.written.pending) ≡ 128 → Written t os vs s (stamped s t) index 0
+pub written_start : (t : ℕ) (vs : List ℕ) {s : Store} {os index : List ℕ} → Ready s os index → length (pendings s.written.pending) ≡ 128 → Written t os vs s (stamped s t) index 0
 unfolding last_at
 written_start t vs r p =
     let c = r.counted in
@@ -75,10 +75,10 @@ written_start t vs r p =
     }
 
 module _ {t : ℕ} {os vs : List ℕ} {s₀ s : Store} {index : List ℕ} {k : ℕ} (w : Written t os vs s₀ s index k) where
-  pub written_end : length os ≤ k → AppliedAnew s₀ s t (paired os vs)
+  pub written_end : length os ≤ k → Applied s₀ s t (paired os vs)
   written_end b = record { contains = sym (none_left (stored s) t os vs k b) ∙ w.left; counted = w.counted; untouched = w.untouched }
 
-  module _ {index₀ : List ℕ} (r : ReadyAnew s₀ os index₀) where
+  module _ {index₀ : List ℕ} (r : Ready s₀ os index₀) where
     pub written_sound : Sound s
     written_sound =
         let u = w.untouched in
@@ -95,7 +95,7 @@ module _ {t : ℕ} {os vs : List ℕ} {s₀ s : Store} {index : List ℕ} {k : �
       pub written_room : Room (commit_store (stored s₀) t (paired os vs)) → Room (write_one (stored s) t o v)
       written_room q = rw (p.object_is, p.value_is) (room_left (stored s) t os vs k p.objects_left p.values_left w.left q)
 
-      module _ {s' : Store} (q : WroteAnew s s' t o v) where
+      module _ {s' : Store} (q : Wrote s s' t o v) where
         next : {index' : List ℕ} → Indexed index' (put o t v (entries s)) → Written t os vs s₀ s' index' (k + 1)
         next x = record {
           pending_rows = q.pending_rows;

@@ -65,36 +65,36 @@ module _ (s : whole.Store) (t : ℕ) (os : List ℕ) where
     more_past vs l = omega (arith, past_growth t os vs (last_at (stored s) t) l d, up_to_length (past_of []) s.heads.past (pasts s.written.past))
 
   module _ {latest : ℕ} (late : latest ≡ max s.heads.last s.heads.horizon) (d : twice_b os ≡ false) where
-    pub judged_late_anew : t ≤ latest → Judges (Refused (Late latest))
-    judged_late_anew b vs l = ap (λ n. Refused (Late n)) late ∙ say_late (stored s) t (paired os vs) (omega arith)
+    pub judged_late : t ≤ latest → Judges (Refused (Late latest))
+    judged_late b vs l = ap (λ n. Refused (Late n)) late ∙ say_late (stored s) t (paired os vs) (omega arith)
 
     module _ (b : latest < t) {n : ℕ} (e : n ≡ trues (map (new_in (stored s).pending) os)) where
-      pub judged_pending_anew : 128 - s.heads.pending < n → Judges (Refused PendingFull)
-      judged_pending_anew f vs l = say_pending (stored s) t (paired os vs) (omega arith) (omega arith) (omega (arith, more_pending d vs l))
+      pub judged_pending : 128 - s.heads.pending < n → Judges (Refused PendingFull)
+      judged_pending f vs l = say_pending (stored s) t (paired os vs) (omega arith) (omega arith) (omega (arith, more_pending d vs l))
 
       module _ (f : n ≤ 128 - s.heads.pending) (c : Counted s.heads) {m : ℕ} (k : m ≡ trues (map (displaces_in (live_in (stored s)) t (stored s).pending) os)) where
-        pub judged_past_anew : 256 - s.heads.past < m → Judges (Refused PastFull)
-        judged_past_anew g vs l = say_past (stored s) t (paired os vs) (omega arith) (omega arith) (omega (arith, more_pending d vs l)) (omega (arith, more_past d vs l))
+        pub judged_past : 256 - s.heads.past < m → Judges (Refused PastFull)
+        judged_past g vs l = say_past (stored s) t (paired os vs) (omega arith) (omega arith) (omega (arith, more_pending d vs l)) (omega (arith, more_past d vs l))
 
-        pub judged_accepted_anew : m ≤ 256 - s.heads.past → Judges Accepted
-        judged_accepted_anew g vs l = say_accepted (stored s) t (paired os vs) (omega arith) (omega arith) (omega (arith, more_pending d vs l)) (omega (arith, more_past d vs l))
+        pub judged_accepted : m ≤ 256 - s.heads.past → Judges Accepted
+        judged_accepted g vs l = say_accepted (stored s) t (paired os vs) (omega arith) (omega arith) (omega (arith, more_pending d vs l)) (omega (arith, more_past d vs l))
 
 -- where there is room
 module _ (s : whole.Store) (t : ℕ) {latest : ℕ} (late : latest ≡ max s.heads.last s.heads.horizon) where
   abbrev JudgesRoomy : Verdict → Type 0
   JudgesRoomy v = (ws : List Write) → Room (commit_store (stored s) t ws) → v ≡ judge_commit (stored s) t ws
 
-  pub roomy_late_anew : t ≤ latest → JudgesRoomy (Refused (Late latest))
-  roomy_late_anew b ws m = ap (λ n. Refused (Late n)) late ∙ say_late (stored s) t ws (omega arith)
+  pub roomy_late : t ≤ latest → JudgesRoomy (Refused (Late latest))
+  roomy_late b ws m = ap (λ n. Refused (Late n)) late ∙ say_late (stored s) t ws (omega arith)
 
-  pub roomy_accepted_anew : latest < t → JudgesRoomy Accepted
-  roomy_accepted_anew b ws m = say_accepted (stored s) t ws (omega arith) (omega arith) m.pending_room m.past_room
+  pub roomy_accepted : latest < t → JudgesRoomy Accepted
+  roomy_accepted b ws m = say_accepted (stored s) t ws (omega arith) (omega arith) m.pending_room m.past_room
 
 -- a commit of so many writes fits, whatever they add: each adds one entry and one past value at most
-pub roomy_room_anew : (s : whole.Store) (t : ℕ) (os vs : List ℕ) → twice_b os ≡ false → length vs ≡ length os
+pub roomy_room : (s : whole.Store) (t : ℕ) (os vs : List ℕ) → twice_b os ≡ false → length vs ≡ length os
     → both (leb (s.heads.pending + length os) 128) (leb (s.heads.past + length os) 256) ≡ true → Room (commit_store (stored s) t (paired os vs))
 unfolding last_at
-roomy_room_anew s t os vs d l e =
+roomy_room s t os vs d l e =
     let st = stored s in
     let p = leb-true (s.heads.pending + length os) 128 (both_left (leb (s.heads.pending + length os) 128) (leb (s.heads.past + length os) 256) e) in
     let q = leb-true (s.heads.past + length os) 256 (both_right (leb (s.heads.pending + length os) 128) (leb (s.heads.past + length os) 256) e) in

@@ -18,7 +18,7 @@ use Rattle.tables.specs.Contents.{stored, Counted}
 use Rattle.tables.proofs.Counts.{up_to_take, up_to_length}
 use Rattle.tables.proofs.Bridges.{opened, put_row, put_next}
 use Rattle.commits.specs.Rows.{one_if, new_b, live_in}
-use Rattle.commits.specs.Promises.{Room, WroteAnew, AddedAnew, entries, value_at, joined, with_past, with_pending}
+use Rattle.commits.specs.Promises.{Room, Wrote, Added, entries, value_at, joined, with_past, with_pending}
 use Rattle.commits.proofs.Growth.{put_length}
 use Rattle.commits.proofs.Displacing.{as_entries, in_table, entry_at, none_at}
 
@@ -28,7 +28,7 @@ module _ (s : Store) (q : Past) where
   add_room e m = omega (arith, simp (length-append, up_to_length) at (rw e at m))
 
   pub added_yes : live_in (stored s) q ≡ true → s.heads.past < 256 → length (pasts s.written.past) ≡ 256 → {past' : List (List ℕ)} → pasts past' ≡ set (pasts s.written.past) s.heads.past q
-      → AddedAnew s (with_past s past' (s.heads.past + 1)) q
+      → Added s (with_past s past' (s.heads.past + 1)) q
   added_yes e m l {past'} w =
       let n : length (pasts past') ≡ 256 = ap length w ∙ simp length-set l in
       let b : s.heads.past < length (pasts s.written.past) = omega arith in
@@ -52,7 +52,7 @@ module _ (s : Store) (p : length (pendings s.written.pending) ≡ 128) (c : Coun
       over_entries : take s.heads.pending (pendings pending') ≡ put o t v (entries s)
       over_entries = ap (take s.heads.pending) w ∙ sym (put_row o (pendings s.written.pending) s.heads.pending row (in_table s p c) f t v)
 
-      over : WroteAnew s (with_pending (with_past s past' n) pending' s.heads.pending) t o v
+      over : Wrote s (with_pending (with_past s past' n) pending' s.heads.pending) t o v
       unfolding write_one
       over =
           let l : length (pendings pending') ≡ 128 = ap length w ∙ simp length-set p in
@@ -67,12 +67,12 @@ module _ (s : Store) (p : length (pendings s.written.pending) ≡ 128) (c : Coun
             untouched = record { disk = refl; dated = refl; snapshots = refl; copies = refl; copied = refl; snapshot_count = refl; copy_count = refl };
           }
 
-    pub wrote_over : (s' : Store) → AddedAnew s s' (value_at s row o t) → (pending' : List (List ℕ)) → pendings pending' ≡ set (pendings s'.written.pending) row (touched (pending_at (pendings s'.written.pending) row) t v)
-        → WroteAnew s (with_pending s' pending' s'.heads.pending) t o v
+    pub wrote_over : (s' : Store) → Added s s' (value_at s row o t) → (pending' : List (List ℕ)) → pendings pending' ≡ set (pendings s'.written.pending) row (touched (pending_at (pendings s'.written.pending) row) t v)
+        → Wrote s (with_pending s' pending' s'.heads.pending) t o v
     wrote_over s' g pending' w =
         let e : with_past s s'.written.past s'.heads.past ≡ s' = sym g.same in
         let u = subst (λ (x : Store). pendings pending' ≡ set (pendings x.written.pending) row (touched (pending_at (pendings x.written.pending) row) t v)) g.same w in
-        subst (λ (x : Store). WroteAnew s (with_pending x pending' x.heads.pending) t o v) e (over s'.written.past s'.heads.past g.contains g.count pending' u)
+        subst (λ (x : Store). Wrote s (with_pending x pending' x.heads.pending) t o v) e (over s'.written.past s'.heads.past g.contains g.count pending' u)
 
   -- ---- where it has none
   module _ (f : find_pending o (entries s) ≡ None) where
@@ -84,7 +84,7 @@ module _ (s : Store) (p : length (pendings s.written.pending) ≡ 128) (c : Coun
         omega (arith, e, up_to_length (pending_of []) s.heads.pending (pendings s.written.pending), m.pending_room)
 
     pub wrote_new : s.heads.pending < 128 → {pending' : List (List ℕ)} → pendings pending' ≡ set (pendings s.written.pending) s.heads.pending (opened o t v)
-        → WroteAnew s (with_pending s pending' (s.heads.pending + 1)) t o v
+        → Wrote s (with_pending s pending' (s.heads.pending + 1)) t o v
     unfolding write_one
     wrote_new b {pending'} w =
         let n = s.heads.pending in

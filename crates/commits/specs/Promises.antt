@@ -17,7 +17,7 @@ pub record Room (st : model.Store) : Type 0 where
   pub past_room : length st.past ≤ 256
 
 -- counts within the tables, ascending snapshots, a well-formed list of objects, and an index of the entries
-pub record ReadyAnew (store : Store) (os index : List ℕ) : Type 0 where
+pub record Ready (store : Store) (os index : List ℕ) : Type 0 where
   pub counted : Counted store.heads
   pub rising : rising_from 0 (take store.heads.snapshots store.snapshots) ≡ true
   pub short : length os ≤ 16
@@ -35,7 +35,7 @@ pub record Untouched (store store' : Store) : Type 0 where
   pub snapshot_count : store'.heads.snapshots ≡ store.heads.snapshots
   pub copy_count : store'.heads.copies ≡ store.heads.copies
 
-pub record AppliedAnew (store store' : Store) (t : ℕ) (ws : List Write) : Type 0 where
+pub record Applied (store store' : Store) (t : ℕ) (ws : List Write) : Type 0 where
   pub contains : stored store' ≡ commit_store (stored store) t ws
   pub counted : Counted store'.heads
   pub untouched : Untouched store store'
@@ -76,13 +76,13 @@ with_pending store pending n = record {
 }
 
 -- a past value added if live
-pub record AddedAnew (store store' : Store) (q : Past) : Type 0 where
+pub record Added (store store' : Store) (q : Past) : Type 0 where
   pub contains : (stored store').past ≡ joined store q
   pub count : store'.heads.past ≤ 256
   pub same : store' ≡ with_past store store'.written.past store'.heads.past
 
 -- one write
-pub record WroteAnew (store store' : Store) (t o v : ℕ) : Type 0 where
+pub record Wrote (store store' : Store) (t o v : ℕ) : Type 0 where
   pub contains : stored store' ≡ write_one (stored store) t o v
   pub pending_rows : length (pendings store'.written.pending) ≡ 128
   pub entered : entries store' ≡ put o t v (entries store)

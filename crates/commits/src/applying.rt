@@ -5,7 +5,7 @@ ghost use Rattle.model.specs.Changes.{paired, write_one, commit_store};
 ghost use Rattle.tables.specs.Rows.{pending_of, pendings, up_to};
 ghost use Rattle.tables.specs.Lookups.{find_pending, Indexed};
 ghost use Rattle.tables.specs.Contents.{stored, Counted};
-ghost use Rattle.commits.specs.Promises.{ReadyAnew, Room, AppliedAnew, Sound, entries, joined, value_at, AddedAnew, WroteAnew, opened_all};
+ghost use Rattle.commits.specs.Promises.{Ready, Room, Applied, Sound, entries, joined, value_at, Added, Wrote, opened_all};
 
 use crate::judging::{displaced, row_of, rows};
 use model::Pending;
@@ -15,7 +15,7 @@ use tables::{Index, PendingTable, Store};
 fn add_displaced(store: &mut Store, row: usize, object: u64, t: u64)
     requires sound { Sound store.old × (row < 128) }
     requires room { length (joined store.old (value_at store.old row object t)) ≤ 256 }
-    ensures { AddedAnew store.old store.new (value_at store.old row object t) }
+    ensures { Added store.old store.new (value_at store.old row object t) }
 {
     rows(&store.written);
     if let Some(q) = displaced(store, row, object, t) {
@@ -29,7 +29,7 @@ fn write_over(store: &mut Store, row: usize, t: u64, object: u64, value: u64)
     requires sound { Sound store.old }
     requires found { find_pending object (entries store.old) ≡ Some row }
     requires room { Room (write_one (stored store.old) t object value) }
-    ensures { WroteAnew store.old store.new t object value }
+    ensures { Wrote store.old store.new t object value }
 {
     rows(&store.written);
     add_displaced(store, row, object, t);
@@ -41,7 +41,7 @@ fn write_new(store: &mut Store, t: u64, object: u64, value: u64)
     requires sound { Sound store.old }
     requires found { find_pending object (entries store.old) ≡ None }
     requires room { Room (write_one (stored store.old) t object value) }
-    ensures { WroteAnew store.old store.new t object value }
+    ensures { Wrote store.old store.new t object value }
 {
     rows(&store.written);
     let new = Pending {
@@ -56,16 +56,10 @@ fn write_new(store: &mut Store, t: u64, object: u64, value: u64)
 
 // The commit's writes, in their order. The judge has accepted them, so there is room. The index follows the entries.
 // Kept: objects and values are two lists, as the C interface lends them.
-pub fn apply_commit_anew(
-    store: &mut Store,
-    t: u64,
-    objects: &[u64],
-    values: &[u64],
-    index: &mut Index,
-)
-    requires ready { ReadyAnew store.old objects.now index.old }
+pub fn apply_commit(store: &mut Store, t: u64, objects: &[u64], values: &[u64], index: &mut Index)
+    requires ready { Ready store.old objects.now index.old }
     requires room { (length values.now ≡ length objects.now) × Room (commit_store (stored store.old) t (paired objects.now values.now)) }
-    ensures applied { AppliedAnew store.old store.new t (paired objects.now values.now) }
+    ensures applied { Applied store.old store.new t (paired objects.now values.now) }
     ensures indexed { Indexed index.new (take store.new.heads.pending (pendings store.new.written.pending)) }
 {
     rows(&store.written);
@@ -99,10 +93,10 @@ fn enter(pending: &mut PendingTable, t: u64, objects: &[u64], values: &[u64])
 
 // The writes of a commit where no entry is pending: each a new one.
 // Kept: objects and values are two lists, as the C interface lends them.
-pub fn add_all_anew(store: &mut Store, t: u64, objects: &[u64], values: &[u64])
+pub fn add_all(store: &mut Store, t: u64, objects: &[u64], values: &[u64])
     requires none_pending { (store.old.heads.pending ≡ 0) × Counted store.old.heads }
     requires well_formed { (length objects.now ≤ 16) × (length values.now ≡ length objects.now) × (twice_b objects.now ≡ false) }
-    ensures applied { AppliedAnew store.old store.new t (paired objects.now values.now) }
+    ensures applied { Applied store.old store.new t (paired objects.now values.now) }
     ensures past_kept { (store.new.written.past ≡ store.old.written.past) × (store.new.heads.past ≡ store.old.heads.past) }
 {
     enter(&mut store.written.pending, t, objects, values);

@@ -8,7 +8,7 @@ ghost use Rattle.tables.specs.Rows.{pendings, pasts};
 ghost use Rattle.tables.specs.Lookups.{find_pending, Indexed};
 ghost use Rattle.tables.specs.Contents.{stored, Counted};
 ghost use Rattle.commits.specs.Rows.{trues, new_in, live_in, displaces_in};
-ghost use Rattle.commits.specs.Promises.{ReadyAnew, Room, Sound, value_at};
+ghost use Rattle.commits.specs.Promises.{Ready, Room, Sound, value_at};
 
 use model::{Answer, Past, Pending, Verdict};
 use tables::{Heads, Index, Store, Written};
@@ -86,7 +86,7 @@ struct Weight {
 
 // No object is named twice, so each write is weighed over the tables as they are before the first.
 fn weigh(store: &Store, t: u64, objects: &[u64], index: &Index) -> Weight
-    requires { ReadyAnew store.now objects.now index.now }
+    requires { Ready store.now objects.now index.now }
     ensures entries_value { result.entries ≡ trues (map (new_in (stored store.now).pending) objects.now) }
     ensures by_index { result.rows ≡ trues (map (displaces_in (live_in (stored store.now)) t (stored store.now).pending) objects.now) }
 {
@@ -107,8 +107,8 @@ fn weigh(store: &Store, t: u64, objects: &[u64], index: &Index) -> Weight
 }
 
 // What the store says of the commit: Late, Pending full, Past full, or accepted.
-pub fn judge_commit_anew(store: &Store, t: u64, objects: &[u64], index: &Index) -> Verdict
-    requires { ReadyAnew store.now objects.now index.now }
+pub fn judge_commit(store: &Store, t: u64, objects: &[u64], index: &Index) -> Verdict
+    requires { Ready store.now objects.now index.now }
     ensures { (vs : List ℕ) → length vs ≡ length objects.now → result ≡ judge_commit (stored store.now) t (paired objects.now vs) }
 {
     let latest = newest(store.heads);
@@ -126,7 +126,7 @@ pub fn judge_commit_anew(store: &Store, t: u64, objects: &[u64], index: &Index) 
 }
 
 // What the store says of a commit that fits: Late, or accepted.
-pub fn judge_with_room_anew(store: &Store, t: u64) -> Verdict
+pub fn judge_with_room(store: &Store, t: u64) -> Verdict
     ensures { (ws : List Write) → Room (commit_store (stored store.now) t ws) → result ≡ judge_commit (stored store.now) t ws }
 {
     let newest = newest(store.heads);

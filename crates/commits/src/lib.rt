@@ -5,5 +5,5 @@ mod applying;
 pub mod fitting;
 mod judging;
 
-pub use applying::{add_all_anew, apply_commit_anew};
-pub use judging::{judge_commit_anew, judge_with_room_anew, roomy};
+pub use applying::{add_all, apply_commit};
+pub use judging::{judge_commit, judge_with_room, roomy};

@@ -31,11 +31,11 @@ fn used() -> Store {
 // Restart from these bytes, as a line: the answer, the place, standing.
 fn restarted(rt: &HostRuntime, before: &[u8], n: usize, journal: &[u8]) {
     let mut store = used();
-    let started = restart::restart_anew(&mut store, journal);
+    let started = restart::restart(&mut store, journal);
     prints::number(rt, before, n as u64);
     prints::answered(rt, started.answer);
     prints::number(rt, b", place ", started.place.at as u64);
-    if let Some(figures) = reads::standing_anew(&store) {
+    if let Some(figures) = reads::standing(&store) {
         prints::figures(rt, figures);
     }
     prints::end(rt);

@@ -22,7 +22,7 @@ use Rattle.tables.proofs.Searches.{both_left}
 use Rattle.tables.proofs.Cases.{by_test, clash}
 use Rattle.tables.proofs.Copies.{no_copy, copies_of_length}
 use Rattle.tables.proofs.Counts.{up_to_take, up_to_length}
-use Rattle.damage.specs.Sifted.{SiftedAnew}
+use Rattle.damage.specs.Sifted.{Sifted}
 
 -- ---- a chain of tests
 pub hit : {a : Bool} (b : Bool) → a ≡ true → true ≡ either a b
@@ -183,7 +183,7 @@ module _ (s : held.Store) (p : length (pendings s.written.pending) ≡ 128) (q :
       (λ t. sym (damaged_over s.written.disk s.written.dated s.written.pending s.written.past s.snapshots s.copies s.copied s.heads t) ∙ hit _ t ∙ sym e)
       (λ t. sym (damaged_is s.written.disk s.written.dated s.written.pending s.written.past s.snapshots s.copies s.copied s.heads p q k c t) ∙ pass t refl ∙ sym e)
 
-  pub sifted : {r : Bool} → r ≡ ranges s → SiftedAnew r s
+  pub sifted : {r : Bool} → r ≡ ranges s → Sifted r s
   sifted e = record {
     hit = λ t. whole ∙ sym (hit _ (sym e ∙ t));
     left = λ t. whole ∙ sym (pass (sym e ∙ t) refl);

@@ -7,7 +7,7 @@ use Rattle.tables.specs.declared.Store.{Store}
 use Rattle.tables.specs.Rows.{pendings}
 use Rattle.tables.specs.Contents.{stored, Counted}
 
-pub record SiftedAnew (out : Bool) (store : Store) : Type 0 where
+pub record Sifted (out : Bool) (store : Store) : Type 0 where
   pub hit : out ≡ true → damaged (stored store) ≡ true
   pub left : out ≡ false → damaged (stored store) ≡ twice_b (map (λ e. e.object) (take store.heads.pending (pendings store.written.pending)))
   pub counted : out ≡ false → Counted store.heads

@@ -7,7 +7,7 @@ ghost use Rattle.model.specs.Damage as model;
 ghost use Rattle.tables.specs.Rows.{pendings, pasts, copy_heads, copies_of};
 ghost use Rattle.tables.specs.Lookups.{Indexed};
 ghost use Rattle.tables.specs.Contents.{stored, Counted};
-ghost use Rattle.damage.specs.Sifted.{SiftedAnew};
+ghost use Rattle.damage.specs.Sifted.{Sifted};
 
 use tables::{CopyTable, Heads, Index, PastTable, PendingTable, Store};
 
@@ -69,8 +69,8 @@ pub fn met_again(t: &PendingTable, n: usize, index: &mut Index) -> bool
 }
 
 // A count or a number is out of its range, or the snapshots don't ascend to the horizon: all of Damaged but two entries of one object.
-pub fn out_of_range_anew(store: &Store) -> bool
-    ensures { SiftedAnew result store.now }
+pub fn out_of_range(store: &Store) -> bool
+    ensures { Sifted result store.now }
 {
     rows(&store.written.pending, &store.written.past);
     let h = store.heads;
@@ -87,17 +87,17 @@ fn rows(pending: &PendingTable, past: &PastTable)
 {}
 
 // Damaged; where it is not, the index tells the row of each object's entry. It comes with 128 for every object.
-pub fn damaged_or_indexed_anew(store: &Store, index: &mut Index) -> bool
+pub fn damaged_or_indexed(store: &Store, index: &mut Index) -> bool
     requires { (o : ℕ) → get_or index.old o 128 ≡ 128 }
     ensures { (result ≡ model.damaged (stored store.now)) × (result ≡ false → Indexed index.new (take store.now.heads.pending (pendings store.now.written.pending))) × (result ≡ false → Counted store.now.heads × (twice_b (map (λ e. e.object) (take store.now.heads.pending (pendings store.now.written.pending))) ≡ false)) }
 {
-    out_of_range_anew(store) || met_again(&store.written.pending, store.heads.pending, index)
+    out_of_range(store) || met_again(&store.written.pending, store.heads.pending, index)
 }
 
-pub fn damaged_anew(store: &Store) -> bool
+pub fn damaged(store: &Store) -> bool
     ensures { result ≡ model.damaged (stored store.now) }
 {
-    if out_of_range_anew(store) {
+    if out_of_range(store) {
         return true;
     }
     // One entry alone is no second one.

@@ -8,10 +8,10 @@ use requests::Request;
 use tables::Store;
 
 // The request from the horizon to a stamp, at the buffer's front.
-pub fn ask_anew(store: &Store, to: u64, buffer: &mut [u8]) -> Answer
+pub fn ask(store: &Store, to: u64, buffer: &mut [u8]) -> Answer
     ensures { Read (model.ask (stored store.now) to buffer.old) result buffer.new }
 {
-    if damage::damaged_anew(store) {
+    if damage::damaged(store) {
         return Answer::Damaged;
     }
     if buffer.len() < 19 {

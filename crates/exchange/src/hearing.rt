@@ -7,7 +7,7 @@ ghost use Rattle.changes.specs.Left.{Left, Made};
 ghost use Rattle.changes.specs.Kept.{GossipKept};
 ghost use Rattle.exchange.specs.Messages.{framed_b, Spoken};
 
-use changes::settling::ChangedAnew;
+use changes::settling::Changed;
 use journal::kind::Kind;
 use journal::place::{COUNT_AT, CURR_AT, KIND_AT, PREV_AT, Place, STAMPS_AT};
 use journal::walk::GossipHead;
@@ -78,7 +78,7 @@ fn heard(
     ensures made { Made (model.hear (stored store.old) journal.old used.at message.now) result (stored store.new) journal.new used.at }
     ensures kept { GossipKept store.old store.new }
 {
-    if damage::damaged_anew(store) {
+    if damage::damaged(store) {
         return Err(Answer::Damaged);
     }
     if !framed(message) {
@@ -93,13 +93,13 @@ fn heard(
     if !changes::settling::journal_shaped(journal, used) {
         return Err(Answer::Shape);
     }
-    changes::gossiping::take_anew(store, journal, used, head.prev, head.curr, stamps)
+    changes::gossiping::take(store, journal, used, head.prev, head.curr, stamps)
 }
 
 // Takes the bytes of a message as gossip.
-pub fn hear_anew(store: &mut Store, journal: &mut [u8], used: Place, message: &[u8]) -> ChangedAnew
+pub fn hear(store: &mut Store, journal: &mut [u8], used: Place, message: &[u8]) -> Changed
     ensures left { Left (model.hear (stored store.old) journal.old used.at message.now) result.answer (stored store.new) journal.new result.place.at }
     ensures kept { GossipKept store.old store.new }
 {
-    ChangedAnew::told(heard(store, journal, used, message), used)
+    Changed::told(heard(store, journal, used, message), used)
 }

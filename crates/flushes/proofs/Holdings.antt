@@ -13,11 +13,11 @@ use Rattle.tables.specs.Rows.{pendings, pasts}
 use Rattle.tables.specs.Contents.{stored}
 use Rattle.tables.proofs.Rows.{pendings_length, pasts_length}
 use Rattle.tables.proofs.Counts.{taken, contents_taken}
-use Rattle.views.specs.Views.{LookableAnew}
+use Rattle.views.specs.Views.{Lookable}
 use Rattle.views.proofs.Sights.{Sized}
 use Rattle.shares.specs.Many.{Ordered}
 use Rattle.shares.proofs.Orders.{rising_ordered}
-use Rattle.flushes.specs.Promises.{Whole, ReadyAnew, Listed}
+use Rattle.flushes.specs.Promises.{Whole, Ready, Listed}
 use Rattle.flushes.specs.Parts.{rule_of, stays_under, leaves_under, graves}
 use Rattle.flushes.proofs.Rising.{dues_rising}
 use Rattle.flushes.proofs.Staying.{past_after}
@@ -33,8 +33,8 @@ leaving store p m = graves store.written.disk store.written.dated store.snapshot
 abbrev pub counted : tables.Store → Store
 counted s = taken s.written.disk s.written.dated s.written.pending s.written.past s.snapshots s.copies s.copied s.heads
 
-module _ (store : tables.Store) (page : ℕ) (a : ReadyAnew store page) where
-  pub looks : LookableAnew store.written store.heads page
+module _ (store : tables.Store) (page : ℕ) (a : Ready store page) where
+  pub looks : Lookable store.written store.heads page
   looks = record { pending_count = a.counted.pending_count; past_count = a.counted.past_count; in_range = a.in_range; single = a.single }
 
   module _ (k : Whole store) where

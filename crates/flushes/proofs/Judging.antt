@@ -14,7 +14,7 @@ use Rattle.tables.specs.Rows.{pendings, copy_heads, copies_of}
 use Rattle.tables.specs.Contents.{stored}
 use Rattle.tables.proofs.Copies.{no_copy}
 use Rattle.tables.proofs.Counts.{up_to_length}
-use Rattle.flushes.specs.Promises.{Whole, ReadyAnew, Listed}
+use Rattle.flushes.specs.Promises.{Whole, Ready, Listed}
 use Rattle.flushes.specs.Parts.{seen_in, dues_seen, top, rule_of, leaves_under, verdict_by}
 use Rattle.flushes.proofs.Listing.{dues_same}
 use Rattle.flushes.proofs.Marks.{mark_after}
@@ -24,7 +24,7 @@ use Rattle.flushes.proofs.Holdings.{staying, same, past_count}
 verdict_same : {a b c d x y z w : ℕ} → a ≡ x → b ≡ y → c ≡ z → d ≡ w → verdict_by a b c d ≡ verdict_by x y z w
 verdict_same p q r s = rw (p, q, r, s)
 
-module _ (store : tables.Store) (page : ℕ) (a : ReadyAnew store page) (k : Whole store) where
+module _ (store : tables.Store) (page : ℕ) (a : Ready store page) (k : Whole store) where
   abbrev st : Store
   st = stored store
 

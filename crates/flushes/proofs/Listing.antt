@@ -19,14 +19,14 @@ use Rattle.tables.specs.declared.Store as tables
 use Rattle.tables.specs.Contents.{stored}
 use Rattle.tables.proofs.Cases.{by_test}
 use Rattle.tables.proofs.Searches.{drop_end}
-use Rattle.views.specs.declared.ViewAnew.{ViewAnew}
+use Rattle.views.specs.declared.View.{View}
 use Rattle.views.specs.declared.Word.TheVariants.{Age}
-use Rattle.views.specs.Views.{viewed_anew, LookableAnew}
+use Rattle.views.specs.Views.{viewed, Lookable}
 use Rattle.views.proofs.Sights.{Sized}
-use Rattle.shares.specs.Lulls.{Lull, StillAnew}
-use Rattle.shares.specs.Many.{FirstFrom, Pages, page_at_anew}
+use Rattle.shares.specs.Lulls.{Lull, Still}
+use Rattle.shares.specs.Many.{FirstFrom, Pages, page_at}
 use Rattle.shares.proofs.Laying.{both_not}
-use Rattle.shares.proofs.Lulls.{still_slot_anew}
+use Rattle.shares.proofs.Lulls.{still_slot}
 use Rattle.shares.proofs.Orders.{rising_at, first_inside, first_before, first_behind}
 use Rattle.flushes.specs.Parts.{seen_in, next_view, due_seen, dues_seen, Telling, ListedTo}
 use Rattle.flushes.proofs.Turns.{next_row}
@@ -62,12 +62,12 @@ module _ (p : ℕ) (l : List ℕ) (n j : ℕ) where
   next_none h = rw (drop_end n l j h)
 
 module _ (st : Store) (p m s : ℕ) (ns : List ℕ) where
-  pub due_seen_lem : {v : ViewAnew} {out : List ℕ} → m < s → v ≡ next_view p ns → out ≡ page16 (λ k. viewed_anew st v (object_at v.page k))
+  pub due_seen_lem : {v : View} {out : List ℕ} → m < s → v ≡ next_view p ns → out ≡ page16 (λ k. viewed st v (object_at v.page k))
       → any_b (ltb s) out ≡ due_seen st p m s ns
   due_seen_lem l q e =
       rw (lt-ltb m s l)
-      (ap (any_b (ltb s)) (e ∙ ap (λ (v : ViewAnew). page16 (λ k. viewed_anew st v (object_at v.page k))) q)
-      ∙ any_page (λ k. viewed_anew st (next_view p ns) (object_at p k)) (ltb s))
+      (ap (any_b (ltb s)) (e ∙ ap (λ (v : View). page16 (λ k. viewed st v (object_at v.page k))) q)
+      ∙ any_page (λ k. viewed st (next_view p ns) (object_at p k)) (ltb s))
 
   due_not : s ≤ m → false ≡ due_seen st p m s ns
   due_not l = rw (le-ltb m s l)
@@ -76,7 +76,7 @@ module _ (st : Store) (p m s : ℕ) (ns : List ℕ) where
 -- sixteen words for each of the next ones tell
 pub pages_tell : (w : Written) (h : Heads) (p m : ℕ) (l : List ℕ) (n low high : ℕ) → high < n → n ≤ length l
     → ((i : ℕ) → low ≤ i → i < high → m < get_or l i 0)
-    → {words₀ words : List ℕ} → Pages (page_at_anew w h p Age) (take (high + 1 - (low + 1)) (drop (low + 1) l)) 0 words₀ words
+    → {words₀ words : List ℕ} → Pages (page_at w h p Age) (take (high + 1 - (low + 1)) (drop (low + 1) l)) 0 words₀ words
     → Telling (seen_in w h) p m l n low high words
 pages_tell w h p m l n low high e b f {words₀} {words} x i q r =
     let c = high + 1 - (low + 1) in
@@ -87,7 +87,7 @@ pages_tell w h p m l n low high e b f {words₀} {words} x i q r =
     let g = get_or-take c (drop (low + 1) l) j 0 t ∙ get_or-drop (low + 1) l j 0 ∙ ap (λ (k : ℕ). get_or l k 0) z in
     let y : 16 * j ≡ 0 + 16 * j = omega arith in
     due_seen_lem (seen_in w h) p m (get_or l i 0) (drop (i + 1) (take n l)) (f i q r) (next_some p l n (i + 1) (omega arith) b)
-    (ap (λ (k : ℕ). take 16 (drop k words)) y ∙ x.pages j k ∙ ap (page_at_anew w h p Age) g)
+    (ap (λ (k : ℕ). take 16 (drop k words)) y ∙ x.pages j k ∙ ap (page_at w h p Age) g)
 
 -- the sixteen words of the snapshot at i, looked through
 pub told_due : (st : Store) (p m : ℕ) (l : List ℕ) (n low high : ℕ) (ages : List ℕ) → Telling st p m l n low high ages → (i : ℕ) → low ≤ i → i < high
@@ -114,14 +114,14 @@ unfolding some_slot
 no_slot f h = none_below 16 f h
 
 -- at or behind the newest stamp up to a bound, with the next one no later than the bound
-due_quiet : (w : Written) (h : Heads) (p : ℕ) → Sized w → LookableAnew w h p
-    → {newest bound : ℕ} → StillAnew w h p (record { from = newest; until = bound + 1 }) → ((k : ℕ) → k < 16 → get_or w.dated (object_at p k) 0 ≤ newest)
+due_quiet : (w : Written) (h : Heads) (p : ℕ) → Sized w → Lookable w h p
+    → {newest bound : ℕ} → Still w h p (record { from = newest; until = bound + 1 }) → ((k : ℕ) → k < 16 → get_or w.dated (object_at p k) 0 ≤ newest)
     → (m s n : ℕ) (ns : List ℕ) → newest ≤ s → n ≤ bound → due_seen (seen_in w h) p m s (n ∷ ns) ≡ false
 due_quiet w h p z a {newest} {bound} q d m s n ns b u =
     let l : Lull = record { from = newest; until = bound + 1 } in
     sym (both_not (ltb m s) _
-    (no_slot (λ k. ltb s (viewed_anew (seen_in w h) (next_view p (n ∷ ns)) (object_at p k)))
-    (λ k i. le-ltb s _ (still_slot_anew p n w h z a l q s b (omega arith) k i (omega (arith, d k i))))))
+    (no_slot (λ k. ltb s (viewed (seen_in w h) (next_view p (n ∷ ns)) (object_at p k)))
+    (λ k i. le-ltb s _ (still_slot p n w h z a l q s b (omega arith) k i (omega (arith, d k i))))))
 
 -- ---- a stretch of snapshots none of which is due
 module _ (st : Store) (p m : ℕ) (l : List ℕ) (n : ℕ) (b : n ≤ length l) where
@@ -150,8 +150,8 @@ none_due st p m l n b f =
     sym (dues_behind st p m l n n b (omega arith) f ∙ ap (dues_seen st p m) (drop_end n l n (omega arith)))
 
 -- none from the newest stamp to the last snapshot, the one at e
-module _ (w : Written) (h : Heads) (p : ℕ) (sz : Sized w) (a : LookableAnew w h p) (l : List ℕ) (n e : ℕ) (q : e + 1 ≡ n) (b : n ≤ length l) (u : rising_from 0 (take n l) ≡ true) where
-  pub dues_to_last : (m : ℕ) {newest low high : ℕ} → StillAnew w h p (record { from = newest; until = get_or l e 0 + 1 })
+module _ (w : Written) (h : Heads) (p : ℕ) (sz : Sized w) (a : Lookable w h p) (l : List ℕ) (n e : ℕ) (q : e + 1 ≡ n) (b : n ≤ length l) (u : rising_from 0 (take n l) ≡ true) where
+  pub dues_to_last : (m : ℕ) {newest low high : ℕ} → Still w h p (record { from = newest; until = get_or l e 0 + 1 })
       → ((k : ℕ) → k < 16 → get_or w.dated (object_at p k) 0 ≤ newest) → FirstFrom (take e l) (m + 1) low → FirstFrom (take e l) newest high
       → (found : List ℕ) → ListedTo (seen_in w h) p m (take n l) low (max low high) found
       → found ++ dues_seen (seen_in w h) p m (drop e (take n l)) ≡ dues_seen (seen_in w h) p m (take n l)

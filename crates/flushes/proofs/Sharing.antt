@@ -13,8 +13,8 @@ use Rattle.model.specs.Changes.{of_page}
 use Rattle.tables.specs.Rows.{pasts}
 use Rattle.tables.proofs.Cases.{by_test}
 use Rattle.tables.proofs.Searches.{both_left}
-use Rattle.shares.specs.Shares.{row_of_page, rows_at, NumberedAnew}
-use Rattle.shares.proofs.Numbers.{numbered_count_anew}
+use Rattle.shares.specs.Shares.{row_of_page, rows_at, Numbered}
+use Rattle.shares.proofs.Numbers.{numbered_count}
 use Rattle.flushes.specs.declared.rows.Rule.{Rule}
 use Rattle.flushes.specs.Parts.{stays_under, leaves_under, Holding}
 
@@ -53,11 +53,11 @@ module _ (snapshots : List ℕ) (rule : Rule) where
   other_stays q e = rw e
 
   -- those of other pages, and those of the page that stay
-  pub staying_start : {d : Past} {l : List Past} {n : ℕ} {ns : List ℕ} → NumberedAnew d (row_of_page rule.page) l n ns → n ≤ length l
+  pub staying_start : {d : Past} {l : List Past} {n : ℕ} {ns : List ℕ} → Numbered d (row_of_page rule.page) l n ns → n ≤ length l
       → n - length ns + length (kept (stays_under snapshots rule) (rows_at d l ns)) ≡ length (kept (stays_under snapshots rule) (take n l))
   staying_start {d} {l} {n} {ns} a h =
       rw a.rows
-      (omega (arith, numbered_count_anew a, others_kept (stays_under snapshots rule) (row_of_page rule.page) other_stays (take n l), length-take-le n l h, kept_fewer (row_of_page rule.page) (take n l)))
+      (omega (arith, numbered_count a, others_kept (stays_under snapshots rule) (row_of_page rule.page) other_stays (take n l), length-take-le n l h, kept_fewer (row_of_page rule.page) (take n l)))
 
   pub all_stay : {past : List (List ℕ)} {n r : ℕ} → n ≤ length (pasts past) → r ≡ length (kept (stays_under snapshots rule) (take n (pasts past))) → r ≡ n
       → Holding past n (kept (stays_under snapshots rule) (take n (pasts past)))
@@ -70,14 +70,14 @@ module _ (disk dated snapshots : List ℕ) (rule : Rule) where
   leaver_there : (e : Pending) → leaves_under disk dated snapshots rule e ≡ true → of_page rule.page e ≡ true
   leaver_there e t = both_left (of_page rule.page e) _ t
 
-  pub leaving_start : {d : Pending} {l : List Pending} {n : ℕ} {ns : List ℕ} → NumberedAnew d (of_page rule.page) l n ns
+  pub leaving_start : {d : Pending} {l : List Pending} {n : ℕ} {ns : List ℕ} → Numbered d (of_page rule.page) l n ns
       → kept (leaves_under disk dated snapshots rule) (rows_at d l ns) ≡ kept (leaves_under disk dated snapshots rule) (take n l)
   leaving_start {d} {l} {n} {ns} a =
       ap (kept (leaves_under disk dated snapshots rule)) a.rows
       ∙ kept_again (leaves_under disk dated snapshots rule) (of_page rule.page) leaver_there (take n l)
 
   -- no more than there are entries of the page
-  pub leaving_few : {d : Pending} {l : List Pending} {n : ℕ} {ns : List ℕ} → NumberedAnew d (of_page rule.page) l n ns
+  pub leaving_few : {d : Pending} {l : List Pending} {n : ℕ} {ns : List ℕ} → Numbered d (of_page rule.page) l n ns
       → length (kept (leaves_under disk dated snapshots rule) (take n l)) ≤ length ns
   leaving_few {d} {l} {n} {ns} a =
-      omega (arith, numbered_count_anew a, ap length a.rows, ap length (leaving_start a), kept_fewer (leaves_under disk dated snapshots rule) (rows_at d l ns))
+      omega (arith, numbered_count a, ap length a.rows, ap length (leaving_start a), kept_fewer (leaves_under disk dated snapshots rule) (rows_at d l ns))

@@ -18,8 +18,8 @@ use Rattle.tables.specs.Contents as contents
 use Rattle.tables.specs.Contents.{Counted}
 use Rattle.tables.proofs.Copies.{no_copy}
 use Rattle.tables.proofs.Counts.{contents_taken, up_to_length}
-use Rattle.shares.specs.Shares.{rows_at, NumberedAnew}
-use Rattle.flushes.specs.Promises.{Whole, ReadyAnew, Listed, Room, AppliedAnew}
+use Rattle.shares.specs.Shares.{rows_at, Numbered}
+use Rattle.flushes.specs.Promises.{Whole, Ready, Listed, Room, Applied}
 use Rattle.flushes.specs.Parts.{rule_of, copy_in, buried_in, graves, Holding, Settled}
 use Rattle.flushes.proofs.Sharing.{leaving_start}
 use Rattle.flushes.proofs.Marks.{copies_looked}
@@ -56,7 +56,7 @@ abbrev pub heads_after : Heads → ℕ → ℕ → ℕ → Heads
 heads_after h left rows n =
     record { pending = left; past = rows; snapshots = h.snapshots; copies = h.copies + n; horizon = h.horizon; last = h.last }
 
-module _ (store : tables.Store) (page : ℕ) (a : ReadyAnew store page) (k : Whole store) where
+module _ (store : tables.Store) (page : ℕ) (a : Ready store page) (k : Whole store) where
   abbrev st : Store
   st = contents.stored store
 
@@ -79,7 +79,7 @@ module _ (store : tables.Store) (page : ℕ) (a : ReadyAnew store page) (k : Who
     past_fits : length (staying store page m ++ leaving store page m) ≤ 256
     past_fits = subst (λ qs. length qs ≤ 256) (past_rows store page a k l) r.past_room
 
-    module _ {ns : List ℕ} (u : NumberedAnew (pending_of []) (of_page page) (pendings store.written.pending) store.heads.pending ns)
+    module _ {ns : List ℕ} (u : Numbered (pending_of []) (of_page page) (pendings store.written.pending) store.heads.pending ns)
         {past : List (List ℕ)} {rest : ℕ} (q : Holding past rest (staying store page m)) where
       named_leaving : named ns m ≡ leaving store page m
       named_leaving =
@@ -96,7 +96,7 @@ module _ (store : tables.Store) (page : ℕ) (a : ReadyAnew store page) (k : Who
           → Holding between.past rows (take rest (pasts past) ++ named ns m)
           → (between.disk ≡ store.written.disk) × (between.dated ≡ store.written.dated) × (between.pending ≡ store.written.pending)
           → Settled page (take store.heads.pending (pendings between.pending)) between after left
-          → Whole x → AppliedAnew store page x
+          → Whole x → Applied store page x
       applied {between} {after} {copies} {copied} {left} {rows} c b o s whole =
           let e = same store page a k in
           let before = counted store in

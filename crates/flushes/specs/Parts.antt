@@ -15,9 +15,9 @@ use Rattle.tables.specs.declared.Written.{Written}
 use Rattle.tables.specs.Rows.{pendings, pasts}
 use Rattle.tables.specs.Contents.{contents}
 use Rattle.tables.specs.Lookups.{wanted_b}
-use Rattle.views.specs.declared.ViewAnew.{ViewAnew}
+use Rattle.views.specs.declared.View.{View}
 use Rattle.views.specs.declared.Word.TheVariants.{Age}
-use Rattle.views.specs.Views.{viewed_anew}
+use Rattle.views.specs.Views.{viewed}
 use Rattle.flushes.specs.declared.rows.Rule.{Rule}
 
 -- what a look at a page needs of the store
@@ -30,11 +30,11 @@ abbrev pub first_of : List ℕ → Option ℕ
 first_of [] = None
 first_of (n ∷ ns) = Some n
 
-abbrev pub next_view : ℕ → List ℕ → ViewAnew
+abbrev pub next_view : ℕ → List ℕ → View
 next_view p ns = record { page = p; as_of = first_of ns; word = Age }
 
 abbrev pub due_seen : Store → ℕ → ℕ → ℕ → List ℕ → Bool
-due_seen st p m s ns = both (ltb m s) (some_slot (λ k. ltb s (viewed_anew st (next_view p ns) (object_at p k))))
+due_seen st p m s ns = both (ltb m s) (some_slot (λ k. ltb s (viewed st (next_view p ns) (object_at p k))))
 
 abbrev pub dues_seen : Store → ℕ → ℕ → List ℕ → List ℕ
 dues_seen st p m [] = []

@@ -6,8 +6,8 @@ use Rattle.model.specs.Changes.{dues, copies_after, flush_store}
 use Rattle.tables.specs.declared.Store.{Store}
 use Rattle.tables.specs.Rows.{pendings, pasts}
 use Rattle.tables.specs.Contents.{stored, Laid, Counted}
-use Rattle.shares.specs.Shares.{SharedAnew}
-use Rattle.flushes.specs.declared.PlanAnew.{PlanAnew}
+use Rattle.shares.specs.Shares.{Shared}
+use Rattle.flushes.specs.declared.Plan.{Plan}
 use Rattle.flushes.specs.Parts.{rule_of, stays_under}
 
 -- every table has the rows that its type says
@@ -15,7 +15,7 @@ abbrev pub Whole : Store → Type 0
 Whole s = Laid s.written.disk s.written.dated s.written.pending s.written.past s.snapshots s.copies s.copied
 
 -- counts within the tables, a page of the store, one entry an object, the known snapshots in order
-pub record ReadyAnew (store : Store) (page : ℕ) : Type 0 where
+pub record Ready (store : Store) (page : ℕ) : Type 0 where
   pub counted : Counted store.heads
   pub in_range : page < 32
   pub single : twice_b (map (λ e. e.object) (take store.heads.pending (pendings store.written.pending))) ≡ false
@@ -27,9 +27,9 @@ pub record Listed (st : model.Store) (page : ℕ) (due : List ℕ) (marked : ℕ
   pub marks : marked ≡ model.mark (copies_after st page) page
 
 -- what the judge found is so: the due snapshots and the mark, the page's share of the tables, and how many past rows stay
-pub record PlannedAnew (store : Store) (page : ℕ) (plan : PlanAnew) : Type 0 where
+pub record Planned (store : Store) (page : ℕ) (plan : Plan) : Type 0 where
   pub lists : Listed (stored store) page plan.due plan.mark
-  pub shares : SharedAnew store.written store.heads page plan.share
+  pub shares : Shared store.written store.heads page plan.share
   pub stay : plan.staying ≡ length (kept (stays_under store.snapshots (rule_of store.heads page plan.mark)) (take store.heads.past (pasts store.written.past)))
 
 -- the store fits the two tables that a flush adds to
@@ -38,7 +38,7 @@ pub record Room (st : model.Store) : Type 0 where
   pub past_room : length st.past ≤ 256
 
 -- what the writer leaves: the model's store, counts within its tables, the known snapshots as they were
-pub record AppliedAnew (before : Store) (page : ℕ) (store : Store) : Type 0 where
+pub record Applied (before : Store) (page : ℕ) (store : Store) : Type 0 where
   pub contains : stored store ≡ flush_store (stored before) page
   pub counted : Counted store.heads
   pub known : store.snapshots ≡ before.snapshots

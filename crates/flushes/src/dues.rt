@@ -2,14 +2,14 @@
 ghost use Rattle.std.specs.Prelude.{◌≡◌, [], ℕ, ◌+◌, ◌-◌, ◌*◌, ◌<◌, ◌≤◌, max, length, take, get_or, ltb};
 ghost use Rattle.model.specs.Lists.{any_b};
 ghost use Rattle.model.specs.Store as model;
-ghost use Rattle.shares.specs.Shares.{SharedAnew};
+ghost use Rattle.shares.specs.Shares.{Shared};
 ghost use Rattle.flushes.specs.Parts.{seen_in, dues_seen, Telling, ListedTo, top};
-ghost use Rattle.flushes.specs.Promises.{ReadyAnew};
+ghost use Rattle.flushes.specs.Promises.{Ready};
 
-use shares::ShareAnew;
+use shares::Share;
 use shares::listed::Listed;
 use tables::{Snapshots, Store};
-use views::{ViewAnew, Word};
+use views::{View, Word};
 
 // Some word is beyond a stamp.
 fn some_beyond(words: &[u64], s: u64) -> bool
@@ -43,21 +43,21 @@ fn find_dues(
 fn list_within(
     store: &Store,
     page: u64,
-    share: &ShareAnew,
+    share: &Share,
     low: usize,
     high: usize,
     ages: &mut [u64],
     due: &mut Listed<u64, 64>,
 )
-    requires ready { ReadyAnew store.now page }
-    requires shared { SharedAnew store.now.written store.now.heads page share.now }
+    requires ready { Ready store.now page }
+    requires shared { Shared store.now.written store.now.heads page share.now }
     requires high_bound { (high < store.now.heads.snapshots) × (due.old ≡ []) }
     requires low_lt_high { (low < high) × (16 * (high - low) ≤ length ages.old) }
     ensures upper_bound { length due.new ≤ high - low }
     ensures by_index { (m : ℕ) → ((i : ℕ) → low ≤ i → i < high → m < get_or store.now.snapshots i 0) → ListedTo (seen_in store.now.written store.now.heads) page m (take store.now.heads.snapshots store.now.snapshots) low (max low high) due.new }
 {
     let known = &store.snapshots[..];
-    shares::many::look_at_all_anew(
+    shares::many::look_at_all(
         &store.written,
         store.heads,
         share,
@@ -74,13 +74,13 @@ fn list_within(
 fn list_between(
     store: &Store,
     page: u64,
-    share: &ShareAnew,
+    share: &Share,
     low: usize,
     high: usize,
     due: &mut Listed<u64, 64>,
 )
-    requires ready { ReadyAnew store.now page }
-    requires shared { SharedAnew store.now.written store.now.heads page share.now }
+    requires ready { Ready store.now page }
+    requires shared { Shared store.now.written store.now.heads page share.now }
     requires high_bound { (high < store.now.heads.snapshots) × (due.old ≡ []) }
     ensures upper_bound { length due.new ≤ high - low }
     ensures by_index { (m : ℕ) → ((i : ℕ) → low ≤ i → i < high → m < get_or store.now.snapshots i 0) → ListedTo (seen_in store.now.written store.now.heads) page m (take store.now.heads.snapshots store.now.snapshots) low (max low high) due.new }
@@ -97,15 +97,9 @@ fn list_between(
 
 // Lists the due snapshots. None up to the mark is due, and none at or behind the newest stamp that
 // wrote the page by the last snapshot, but perhaps this last one. The ages as of the next snapshot tell the others.
-pub fn list_dues(
-    store: &Store,
-    page: u64,
-    share: &ShareAnew,
-    marked: u64,
-    due: &mut Listed<u64, 64>,
-)
-    requires ready { ReadyAnew store.now page }
-    requires shared { SharedAnew store.now.written store.now.heads page share.now }
+pub fn list_dues(store: &Store, page: u64, share: &Share, marked: u64, due: &mut Listed<u64, 64>)
+    requires ready { Ready store.now page }
+    requires shared { Shared store.now.written store.now.heads page share.now }
     ensures { due.new ≡ dues_seen (seen_in store.now.written store.now.heads) page marked (take store.now.heads.snapshots store.now.snapshots) }
 {
     crate::whole(store);
@@ -121,17 +115,17 @@ pub fn list_dues(
     if last <= marked {
         return;
     }
-    let newest = shares::quiet::newest_up_to_anew(w, h, page, share, last);
+    let newest = shares::quiet::newest_up_to(w, h, page, share, last);
     let low = shares::many::first_from(&known[..end], marked + 1);
     let high = shares::many::first_from(&known[..end], newest);
     list_between(store, page, share, low, high, due);
-    let v = ViewAnew {
+    let v = View {
         page,
         as_of: None,
         word: Word::Age,
     };
     let mut ages = [0u64; 16];
-    shares::look::look_at_anew(w, h, share, v, &mut ages);
+    shares::look::look_at(w, h, share, v, &mut ages);
     if some_beyond(&ages, last) {
         due.push(last);
     }

@@ -11,28 +11,28 @@ ghost use Rattle.std.specs.Prelude.{◌≡◌};
 ghost use Rattle.model.specs.Changes.{flush_store};
 ghost use Rattle.model.specs.Judgement.{judge_flush};
 ghost use Rattle.tables.specs.Contents.{stored, Laid};
-ghost use Rattle.flushes.specs.Promises.{Whole, ReadyAnew, PlannedAnew, Room, AppliedAnew};
+ghost use Rattle.flushes.specs.Promises.{Whole, Ready, Planned, Room, Applied};
 
 use model::Verdict;
 use rows::Rule;
-use shares::ShareAnew;
+use shares::Share;
 use shares::listed::Listed;
 use tables::{Copied, CopyTable, Disk, PastTable, PendingTable, Snapshots, Store};
 
 // What the judge found and the writer needs: the page's share of the tables, the due snapshots, the page's mark after the flush,
 // and how many past rows stay.
 #[derive(Drop)]
-pub struct PlanAnew {
-    share: ShareAnew,
+pub struct Plan {
+    share: Share,
     due: Listed<u64, 64>,
     mark: u64,
     staying: usize,
 }
 
-impl PlanAnew {
+impl Plan {
     pub fn empty() -> Self {
-        PlanAnew {
-            share: ShareAnew::none(),
+        Plan {
+            share: Share::none(),
             due: Listed::none(0),
             mark: 0,
             staying: 0,
@@ -69,16 +69,16 @@ fn laid(
 {}
 
 // What the store says of the flush: nothing to do, Archive full, Past full, or accepted; the plan is filled whatever it says.
-pub fn judge_flush_anew(store: &Store, page: u64, plan: &mut PlanAnew) -> Verdict
-    requires { ReadyAnew store.now page }
+pub fn judge_flush(store: &Store, page: u64, plan: &mut Plan) -> Verdict
+    requires { Ready store.now page }
     ensures verdict { result ≡ judge_flush (stored store.now) page }
-    ensures planned { PlannedAnew store.now page plan.new }
+    ensures planned { Planned store.now page plan.new }
 {
     let w = &store.written;
     let h = store.heads;
     whole(store);
     let marked = tables::lookups::mark_of(&store.copies, h.copies, page);
-    shares::find_share_anew(w, h, page, &mut plan.share);
+    shares::find_share(w, h, page, &mut plan.share);
     dues::list_dues(store, page, &plan.share, marked, &mut plan.due);
     let due = plan.due.listed();
     let mark = dues::highest(due, marked);
@@ -98,11 +98,11 @@ pub fn judge_flush_anew(store: &Store, page: u64, plan: &mut PlanAnew) -> Verdic
 }
 
 // Copies of the due snapshots, the page's entries to disk, and the past values that are still live. The judge has accepted it, so there is room.
-pub fn apply_flush_anew(store: &mut Store, page: u64, plan: &PlanAnew)
-    requires ready { ReadyAnew store.old page }
-    requires planned { PlannedAnew store.old page plan.now }
+pub fn apply_flush(store: &mut Store, page: u64, plan: &Plan)
+    requires ready { Ready store.old page }
+    requires planned { Planned store.old page plan.now }
     requires room { Room (flush_store (stored store.old) page) }
-    ensures { AppliedAnew store.old page store.new }
+    ensures { Applied store.old page store.new }
 {
     whole(store);
     let h = store.heads;

@@ -3,7 +3,7 @@ ghost use Rattle.std.specs.Prelude.{◌≡◌, Bool, ℕ, [], ◌+◌, ◌<◌, 
 ghost use Rattle.model.specs.Lists.{kept};
 ghost use Rattle.model.specs.Changes.{of_page};
 ghost use Rattle.tables.specs.Rows.{pending_of, past_of, pendings, pasts};
-ghost use Rattle.shares.specs.Shares.{row_of_page, rows_at, NumberedAnew};
+ghost use Rattle.shares.specs.Shares.{row_of_page, rows_at, Numbered};
 ghost use Rattle.flushes.specs.Parts.{Ruled, rule_of, stays_under, buried_in, leaves_under, Holding};
 
 use model::{Past, Pending};
@@ -95,7 +95,7 @@ pub fn count_staying(
     snapshots: &Snapshots,
     rule: Rule,
 ) -> usize
-    requires numbered { NumberedAnew (past_of []) (row_of_page rule.page) (pasts past.now) n numbers.now }
+    requires numbered { Numbered (past_of []) (row_of_page rule.page) (pasts past.now) n numbers.now }
     requires n_bound { (n ≤ 256) × Ruled snapshots.now rule }
     ensures { (result ≡ length (kept (stays_under snapshots.now rule) (take n (pasts past.now)))) × (result ≤ n) }
 {
@@ -104,7 +104,7 @@ pub fn count_staying(
 }
 
 pub fn count_leaving(store: &Store, numbers: &[u8], rule: Rule) -> usize
-    requires numbered { NumberedAnew (pending_of []) (of_page rule.page) (pendings store.now.written.pending) store.now.heads.pending numbers.now }
+    requires numbered { Numbered (pending_of []) (of_page rule.page) (pendings store.now.written.pending) store.now.heads.pending numbers.now }
     requires n_bound { (store.now.heads.pending ≤ 128) × Ruled store.now.snapshots rule }
     ensures { (result ≡ length (kept (leaves_under store.now.written.disk store.now.written.dated store.now.snapshots rule) (take store.now.heads.pending (pendings store.now.written.pending)))) × (result ≤ store.now.heads.pending) }
 {

@@ -18,7 +18,7 @@ use Rattle.tables.proofs.Cases.{by_test}
 use Rattle.tables.proofs.Copies.{no_copy, copies_of_length}
 use Rattle.tables.proofs.Counts.{up_to_take}
 use Rattle.tables.proofs.Bridges.{kept_every}
-use Rattle.gossips.specs.Promises.{ReadyAnew, Added, LivesOn, AppliedAnew, with_past, with_snapshots, with_horizon}
+use Rattle.gossips.specs.Promises.{Ready, Added, LivesOn, Applied, with_past, with_snapshots, with_horizon}
 
 -- a test keeps at most all
 kept_most : {A : Type 0} (f : A → Bool) (l : List A) → length (kept f l) ≤ length l
@@ -50,7 +50,7 @@ module _ (s : Store) (horizon : ℕ) (c : Counted s.heads) (l : length s.snapsho
       }
 
 -- ---- the whole message
-module _ (s : Store) (curr : ℕ) (stamps : List ℕ) (a : ReadyAnew s stamps) (l : length s.snapshots ≡ 64) (snapshots' : List ℕ) (k : ℕ) (g : Added s.snapshots snapshots' s.heads.snapshots k s.heads.horizon stamps) where
+module _ (s : Store) (curr : ℕ) (stamps : List ℕ) (a : Ready s stamps) (l : length s.snapshots ≡ 64) (snapshots' : List ℕ) (k : ℕ) (g : Added s.snapshots snapshots' s.heads.snapshots k s.heads.horizon stamps) where
   pub known_counted : Counted (with_snapshots s snapshots' k).heads
   known_counted =
       let c = a.counted in
@@ -62,7 +62,7 @@ module _ (s : Store) (curr : ℕ) (stamps : List ℕ) (a : ReadyAnew s stamps) (
       rw (up_to_take 0 k snapshots' (omega (arith, a.room, g.count, g.words)), up_to_take 0 s.heads.snapshots s.snapshots (omega arith)) g.known
 
   applied_known : (past' : List (List ℕ)) (r : ℕ) → LivesOn (with_snapshots s snapshots' k) (with_past (with_snapshots s snapshots' k) past' r) curr
-      → AppliedAnew s (with_horizon (with_past (with_snapshots s snapshots' k) past' r) curr) curr stamps
+      → Applied s (with_horizon (with_past (with_snapshots s snapshots' k) past' r) curr) curr stamps
   unfolding gossip_store
   applied_known past' r d =
       let c = known_counted in
@@ -72,7 +72,7 @@ module _ (s : Store) (curr : ℕ) (stamps : List ℕ) (a : ReadyAnew s stamps) (
         untouched = record { disk = refl; dated = refl; pending = refl; copies = refl; copied = refl; pending_count = refl; copy_count = refl };
       }
 
-  pub applied_whole : (s' : Store) → LivesOn (with_snapshots s snapshots' k) s' curr → AppliedAnew s (with_horizon s' curr) curr stamps
+  pub applied_whole : (s' : Store) → LivesOn (with_snapshots s snapshots' k) s' curr → Applied s (with_horizon s' curr) curr stamps
   applied_whole s' d =
-      subst (λ (x : Store). AppliedAnew s (with_horizon x curr) curr stamps) (sym d.same)
+      subst (λ (x : Store). Applied s (with_horizon x curr) curr stamps) (sym d.same)
       (applied_known s'.written.past s'.heads.past (record { live = d.live; count = d.count; same = refl }))

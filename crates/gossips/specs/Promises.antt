@@ -25,7 +25,7 @@ pub record Added (snapshots snapshots' : List ℕ) (n r horizon : ℕ) (stamps :
   pub words : length snapshots' ≡ 64
 
 -- the stamps ascend, and so do the known snapshots with the new ones behind them
-pub record ReadyAnew (store : Store) (stamps : List ℕ) : Type 0 where
+pub record Ready (store : Store) (stamps : List ℕ) : Type 0 where
   pub counted : Counted store.heads
   pub pages_in : all_b (λ c. ltb c.page 32) (take store.heads.copies (copy_heads store.copies)) ≡ true
   pub room : store.heads.snapshots + length (kept (ltb store.heads.horizon) stamps) ≤ 64
@@ -42,7 +42,7 @@ pub record Untouched (store store' : Store) : Type 0 where
   pub pending_count : store'.heads.pending ≡ store.heads.pending
   pub copy_count : store'.heads.copies ≡ store.heads.copies
 
-pub record AppliedAnew (store store' : Store) (curr : ℕ) (stamps : List ℕ) : Type 0 where
+pub record Applied (store store' : Store) (curr : ℕ) (stamps : List ℕ) : Type 0 where
   pub contains : stored store' ≡ gossip_store (stored store) curr stamps
   pub counted : Counted store'.heads
   pub untouched : Untouched store store'

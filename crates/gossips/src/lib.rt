@@ -7,7 +7,7 @@ ghost use Rattle.model.specs.Lists.{both, all_b, kept, rising_from};
 ghost use Rattle.model.specs.Judgement.{compared, judge_gossip};
 ghost use Rattle.tables.specs.Rows.{pasts, copy_heads};
 ghost use Rattle.tables.specs.Contents.{stored, Counted};
-ghost use Rattle.gossips.specs.Promises.{differing_in, Told, LivesOn, Added, ReadyAnew, AppliedAnew};
+ghost use Rattle.gossips.specs.Promises.{differing_in, Told, LivesOn, Added, Ready, Applied};
 
 use model::{Answer, Verdict};
 use tables::{Snapshots, Store, Written};
@@ -109,7 +109,7 @@ fn add_known(snapshots: &mut Snapshots, n: usize, horizon: u64, stamps: &[u64]) 
 }
 
 // What the store says of the message: Gap, Conflict, nothing new, Snapshots full, or accepted.
-pub fn judge_gossip_anew(store: &Store, prev: u64, curr: u64, stamps: &[u64]) -> Verdict
+pub fn judge_gossip(store: &Store, prev: u64, curr: u64, stamps: &[u64]) -> Verdict
     requires counted { store.now.heads.snapshots ≤ 64 }
     requires well_formed { (length stamps.now ≤ 16) × (rising_from prev stamps.now ≡ true) }
     requires rising { rising_from 0 (take store.now.heads.snapshots store.now.snapshots) ≡ true }
@@ -158,9 +158,9 @@ fn drop_past(store: &mut Store, horizon: u64)
 }
 
 // Stamps beyond the horizon become known, the horizon moves, and dead past values go.
-pub fn apply_gossip_anew(store: &mut Store, curr: u64, stamps: &[u64])
-    requires { ReadyAnew store.old stamps.now }
-    ensures { AppliedAnew store.old store.new curr stamps.now }
+pub fn apply_gossip(store: &mut Store, curr: u64, stamps: &[u64])
+    requires { Ready store.old stamps.now }
+    ensures { Applied store.old store.new curr stamps.now }
 {
     store.heads.snapshots = add_known(
         &mut store.snapshots,

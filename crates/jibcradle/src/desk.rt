@@ -1,6 +1,6 @@
 // One line served: the call that it is, carried out and answered.
 use crate::{help, say};
-use changes::settling::ChangedAnew;
+use changes::settling::Changed;
 use changes::{committing, flushing, gossiping};
 use exchange::{asking, hearing};
 use files::file::NotRenewed;
@@ -8,7 +8,7 @@ use files::{file, paths, room};
 use journal::place::Place;
 use lines::{Call, Listed};
 use model::{Answer, NO_FIGURES};
-use restart::StartedAnew;
+use restart::Started;
 use std::fs::File;
 use tables::Store;
 use terminal::serve::{Desk, Stop, given};
@@ -42,27 +42,27 @@ fn curr_of(message: &[u8]) -> u64 {
 }
 
 // Commit, gossip and flush. No other call comes here.
-fn changed(
+fn make_change(
     store: &mut Store,
     journal: &mut [u8; ROOM],
     used: Place,
     call: Call,
     listed: &Listed,
-) -> ChangedAnew {
+) -> Changed {
     let journal = &mut journal[..room::MOST];
     match call {
         Call::Commit(t, count) => {
             let n = entries(count, &listed.firsts);
             let m = entries(count, &listed.seconds);
             let objects = &listed.firsts[..n];
-            committing::commit_anew(store, journal, used, t, objects, &listed.seconds[..m])
+            committing::commit(store, journal, used, t, objects, &listed.seconds[..m])
         }
         Call::Gossip(prev, curr, count) => {
             let n = entries(count, &listed.firsts);
-            gossiping::gossip_anew(store, journal, used, prev, curr, &listed.firsts[..n])
+            gossiping::gossip(store, journal, used, prev, curr, &listed.firsts[..n])
         }
-        Call::Flush(page) => flushing::flush_anew(store, journal, used, page),
-        _ => ChangedAnew {
+        Call::Flush(page) => flushing::flush(store, journal, used, page),
+        _ => Changed {
             answer: Answer::Nothing(0),
             place: used,
         },
@@ -70,13 +70,13 @@ fn changed(
 }
 
 // A message that a coordinator wrote.
-fn heard(store: &mut Store, journal: &mut [u8; ROOM], used: Place, message: &[u8]) -> ChangedAnew {
-    hearing::hear_anew(store, &mut journal[..room::MOST], used, message)
+fn heard(store: &mut Store, journal: &mut [u8; ROOM], used: Place, message: &[u8]) -> Changed {
+    hearing::hear(store, &mut journal[..room::MOST], used, message)
 }
 
 impl Keeper<'_> {
     // A change that was made is answered once its record is in the file.
-    fn settle(&mut self, rt: &HostRuntime, done: ChangedAnew) -> Result<(), Stop> {
+    fn settle(&mut self, rt: &HostRuntime, done: Changed) -> Result<(), Stop> {
         let old = self.place.at;
         let new = done.place.at;
         if done.answer.is_done() {
@@ -93,7 +93,7 @@ impl Keeper<'_> {
 
     // What can be read: the horizon, the last commit, the known snapshots.
     fn is_known_shown(&self, rt: &HostRuntime) -> bool {
-        match reads::known_anew(&self.store) {
+        match reads::known(&self.store) {
             Some(known) => terminal::say::known(
                 rt,
                 Answer::Done(0),
@@ -106,7 +106,7 @@ impl Keeper<'_> {
     }
 
     fn is_standing_shown(&self, rt: &HostRuntime) -> bool {
-        match reads::standing_anew(&self.store) {
+        match reads::standing(&self.store) {
             Some(figures) => say::standing(rt, Answer::Done(0), figures),
             None => say::standing(rt, Answer::Damaged, NO_FIGURES),
         }
@@ -115,7 +115,7 @@ impl Keeper<'_> {
     // The answer, and behind it the request from the horizon to a stamp. A message that starts beyond the horizon is answered so too.
     fn is_asked(&self, rt: &HostRuntime, answer: Option<Answer>, to: u64) -> bool {
         let mut request = [0u8; REQUEST];
-        let asked = asking::ask_anew(&self.store, to, &mut request);
+        let asked = asking::ask(&self.store, to, &mut request);
         let n = terminal::say::written(asked, &request);
         terminal::say::bytes(rt, answer.unwrap_or(asked), &request[..n])
     }
@@ -126,15 +126,15 @@ impl Keeper<'_> {
         let mut words = [0u64; 16];
         match call {
             Call::Read(time, page) => {
-                let answer = reads::snapshot_read_anew(store, time, page, &mut words);
+                let answer = reads::snapshot_read(store, time, page, &mut words);
                 say::page(rt, answer, &words)
             }
             Call::Clock(tick, page) => {
-                let answer = reads::clock_read_anew(store, tick, page, &mut words);
+                let answer = reads::clock_read(store, tick, page, &mut words);
                 say::page(rt, answer, &words)
             }
             Call::Now(page) => {
-                let answer = reads::current_read_anew(store, page, &mut words);
+                let answer = reads::current_read(store, page, &mut words);
                 say::page(rt, answer, &words)
             }
             Call::Ask(to) => self.is_asked(rt, None, to),
@@ -153,7 +153,7 @@ impl Keeper<'_> {
     }
 
     // A store that was started anew is answered.
-    fn renew(&mut self, rt: &HostRuntime, started: StartedAnew) -> Result<(), Stop> {
+    fn renew(&mut self, rt: &HostRuntime, started: Started) -> Result<(), Stop> {
         self.place = started.place;
         given(terminal::say::answer(rt, started.answer))
     }
@@ -164,7 +164,7 @@ impl Keeper<'_> {
         match file::renew(rt, path, self.file.as_ref()) {
             Ok(next) => {
                 self.file = next;
-                let started = restart::fresh_anew(&mut self.store);
+                let started = restart::fresh(&mut self.store);
                 self.renew(rt, started)
             }
             Err(NotRenewed::Barred) => given(terminal::say::refused(
@@ -191,7 +191,7 @@ impl Keeper<'_> {
             return given(say::refused_beyond(rt, used as u64));
         }
         let n = paths::within(to, &self.journal);
-        let started = restart::restart_anew(&mut self.store, &self.journal[..n]);
+        let started = restart::restart(&mut self.store, &self.journal[..n]);
         self.renew(rt, started)
     }
 }
@@ -221,7 +221,7 @@ impl Desk for Keeper<'_> {
                 | Call::Standing),
             ) => given(self.is_shown(rt, call)),
             Ok(call @ (Call::Commit(_, _) | Call::Gossip(_, _, _) | Call::Flush(_))) => {
-                let done = changed(
+                let done = make_change(
                     &mut self.store,
                     &mut self.journal,
                     self.place,

@@ -44,7 +44,7 @@ fn is_served(
     };
     let n = paths::within(count, &journal);
     let mut store = Store::empty();
-    let started = restart::restart_anew(&mut store, &journal[..n]);
+    let started = restart::restart(&mut store, &journal[..n]);
     let place = started.place;
     if let Some(file) = &file {
         if !is_opened(rt, path, file, &journal[..n], started.answer, place.at) {

@@ -50,7 +50,7 @@ fn end_of(answer: Answer, place: usize) -> usize {
 // What a restart from the bytes answers decides how far the records go.
 fn are_listed(rt: &HostRuntime, journal: &[u8]) -> bool {
     let mut store = Store::empty();
-    let started = restart::restart_anew(&mut store, journal);
+    let started = restart::restart(&mut store, journal);
     let answer = started.answer;
     let place = started.place.at;
     are_said(rt, journal, end_of(answer, place)) && is_ended(rt, answer, place, journal.len())

@@ -1,5 +1,5 @@
 // A store and its journal in the night: each call with its words, and its answer.
-use changes::settling::ChangedAnew;
+use changes::settling::Changed;
 use changes::{committing, flushing, gossiping};
 use journal::place::Place;
 use tables::Store;
@@ -20,11 +20,11 @@ impl Night {
         }
     }
 
-    pub fn commit(&mut self, rt: &HostRuntime, t: u64, object: u64, value: u64) -> ChangedAnew {
+    pub fn commit(&mut self, rt: &HostRuntime, t: u64, object: u64, value: u64) -> Changed {
         prints::number(rt, b" commit ", t);
         prints::number(rt, b", object ", object);
         prints::number(rt, b" = ", value);
-        committing::commit_anew(
+        committing::commit(
             &mut self.store,
             &mut self.journal,
             self.used,
@@ -41,7 +41,7 @@ impl Night {
         prev: u64,
         curr: u64,
         stamp: Option<u64>,
-    ) -> ChangedAnew {
+    ) -> Changed {
         prints::number(rt, b" gossip ", prev);
         prints::number(rt, b", ", curr);
         let store = &mut self.store;
@@ -49,18 +49,18 @@ impl Night {
             Some(stamp) => {
                 prints::number(rt, b", {", stamp);
                 prints::text(rt, b"}");
-                gossiping::gossip_anew(store, &mut self.journal, self.used, prev, curr, &[stamp])
+                gossiping::gossip(store, &mut self.journal, self.used, prev, curr, &[stamp])
             }
             None => {
                 prints::text(rt, b", {}");
-                gossiping::gossip_anew(store, &mut self.journal, self.used, prev, curr, &[])
+                gossiping::gossip(store, &mut self.journal, self.used, prev, curr, &[])
             }
         }
     }
 
-    pub fn flush(&mut self, rt: &HostRuntime, page: u64) -> ChangedAnew {
+    pub fn flush(&mut self, rt: &HostRuntime, page: u64) -> Changed {
         prints::number(rt, b" flush ", page);
-        flushing::flush_anew(&mut self.store, &mut self.journal, self.used, page)
+        flushing::flush(&mut self.store, &mut self.journal, self.used, page)
     }
 
     // The buffer holds ones before, so that a zero shown is one that was read.
@@ -68,7 +68,7 @@ impl Night {
         prints::number(rt, b" read time ", time);
         prints::number(rt, b", page ", page);
         let mut buffer = [1u64; 16];
-        let answer = reads::snapshot_read_anew(&self.store, time, page, &mut buffer);
+        let answer = reads::snapshot_read(&self.store, time, page, &mut buffer);
         prints::answered(rt, answer);
         prints::page(rt, &buffer);
     }

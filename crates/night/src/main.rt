@@ -71,7 +71,7 @@ impl Night {
             Besides::Nothing => {}
             Besides::Journal => prints::bytes(rt, &self.journal, self.used.at),
             Besides::Standing => {
-                if let Some(figures) = reads::standing_anew(&self.store) {
+                if let Some(figures) = reads::standing(&self.store) {
                     prints::figures(rt, figures);
                 }
             }

@@ -19,18 +19,18 @@ fn read(rt: &HostRuntime, store: &Store, call: Call, page: u64, buffer: &mut [u6
             print::text(rt, b"; snapshot");
             print::number(rt, time);
             print::number(rt, page);
-            reads::snapshot_read_anew(store, time, page, buffer)
+            reads::snapshot_read(store, time, page, buffer)
         }
         Call::Clock(tick) => {
             print::text(rt, b"; clock");
             print::number(rt, tick);
             print::number(rt, page);
-            reads::clock_read_anew(store, tick, page, buffer)
+            reads::clock_read(store, tick, page, buffer)
         }
         _ => {
             print::text(rt, b"; current");
             print::number(rt, page);
-            reads::current_read_anew(store, page, buffer)
+            reads::current_read(store, page, buffer)
         }
     }
 }
@@ -46,7 +46,7 @@ pub fn line(
     print::label(rt, label);
     if let Call::Standing = call {
         print::text(rt, b"; standing");
-        match reads::standing_anew(store) {
+        match reads::standing(store) {
             Some(figures) => print::stood(rt, Answer::Done(0), figures),
             None => print::stood(rt, Answer::Damaged, NO_FIGURES),
         }

@@ -10,17 +10,17 @@ ghost use Rattle.model.specs.Reads.{tick_of};
 ghost use Rattle.tables.specs.Rows.{pendings};
 ghost use Rattle.tables.specs.Lookups.{Indexed};
 ghost use Rattle.tables.specs.Contents.{stored};
-ghost use Rattle.views.specs.Views.{LookableAnew};
+ghost use Rattle.views.specs.Views.{Lookable};
 ghost use Rattle.reads.specs.Read.{Read, ShownBy};
-ghost use Rattle.reads.specs.Knows.{padded, KnowsAnew, StandsAnew};
+ghost use Rattle.reads.specs.Knows.{padded, Knows, Stands};
 
 use model::{Answer, Figures};
 use tables::{Index, Store};
-use views::{ViewAnew, Word};
+use views::{View, Word};
 
 // The horizon, the last commit, and every known snapshot.
 #[derive(Clone, Copy)]
-pub struct KnowledgeAnew<'a> {
+pub struct Knowledge<'a> {
     pub horizon: u64,
     pub last: u64,
     pub snapshots: &'a [u64],
@@ -54,7 +54,7 @@ fn shown_by(store: &Store, time: u64, page: u64, buffer: &[u64]) -> Result<u64, 
 
 // The page as of s: the serving copy's words, else what the tables show.
 fn show_page(store: &Store, index: &Index, page: u64, s: u64, buffer: &mut [u64])
-    requires lookable { LookableAnew store.now.written store.now.heads page }
+    requires lookable { Lookable store.now.written store.now.heads page }
     requires indexed { Indexed index.now (take store.now.heads.pending (pendings store.now.written.pending)) }
     requires copies_bound { (store.now.heads.copies ≤ 128) × (length buffer.old ≡ 16) }
     ensures { buffer.new ≡ page_as_of (stored store.now) page s }
@@ -62,21 +62,21 @@ fn show_page(store: &Store, index: &Index, page: u64, s: u64, buffer: &mut [u64]
     match tables::lookups::serving(&store.copies, store.heads.copies, page, s) {
         Some(i) => views::sixteen(&store.copied, 16 * i, buffer),
         None => {
-            let view = ViewAnew {
+            let view = View {
                 page,
                 as_of: Some(s),
                 word: Word::Value,
             };
-            views::look_at_anew(&store.written, store.heads, index, view, buffer);
+            views::look_at(&store.written, store.heads, index, view, buffer);
         }
     }
 }
 
 // The page as of the largest known snapshot at or before a time.
-pub fn snapshot_read_anew(store: &Store, time: u64, page: u64, buffer: &mut [u64]) -> Answer
+pub fn snapshot_read(store: &Store, time: u64, page: u64, buffer: &mut [u64]) -> Answer
     ensures { Read (model.snapshot_read (stored store.now) time page buffer.old) result buffer.new }
 {
-    if damage::out_of_range_anew(store) {
+    if damage::out_of_range(store) {
         return Answer::Damaged;
     }
     let shown = shown_by(store, time, page, buffer);
@@ -100,35 +100,35 @@ pub fn snapshot_read_anew(store: &Store, time: u64, page: u64, buffer: &mut [u64
 }
 
 // The same at a clock tick, of 256 stamps.
-pub fn clock_read_anew(store: &Store, tick: u64, page: u64, buffer: &mut [u64]) -> Answer
+pub fn clock_read(store: &Store, tick: u64, page: u64, buffer: &mut [u64]) -> Answer
     ensures { Read (model.clock_read (stored store.now) tick page buffer.old) result buffer.new }
 {
     if let Some(time) = tick.checked_mul(256) {
-        return snapshot_read_anew(store, time, page, buffer);
+        return snapshot_read(store, time, page, buffer);
     }
-    if damage::damaged_anew(store) {
+    if damage::damaged(store) {
         return Answer::Damaged;
     }
     Answer::Shape
 }
 
 // The page as it is now.
-pub fn current_read_anew(store: &Store, page: u64, buffer: &mut [u64]) -> Answer
+pub fn current_read(store: &Store, page: u64, buffer: &mut [u64]) -> Answer
     ensures { Read (model.current_read (stored store.now) page buffer.old) result buffer.new }
 {
     let mut index = [128u8; 512];
-    if damage::damaged_or_indexed_anew(store, &mut index) {
+    if damage::damaged_or_indexed(store, &mut index) {
         return Answer::Damaged;
     }
     if !read_shaped(page, buffer) {
         return Answer::Shape;
     }
-    let view = ViewAnew {
+    let view = View {
         page,
         as_of: None,
         word: Word::Value,
     };
-    views::look_at_anew(&store.written, store.heads, &index, view, buffer);
+    views::look_at(&store.written, store.heads, &index, view, buffer);
     Answer::Done(0)
 }
 
@@ -142,10 +142,10 @@ fn lag(last: u64, horizon: u64) -> i64
 }
 
 // The numbers of rows in the tables, and the lag; none of a damaged store.
-pub fn standing_anew(store: &Store) -> Option<Figures>
-    ensures { StandsAnew (model.standing (stored store.now)) result }
+pub fn standing(store: &Store) -> Option<Figures>
+    ensures { Stands (model.standing (stored store.now)) result }
 {
-    if damage::damaged_anew(store) {
+    if damage::damaged(store) {
         return None;
     }
     let h = store.heads;
@@ -159,14 +159,14 @@ pub fn standing_anew(store: &Store) -> Option<Figures>
 }
 
 // The horizon, the last commit, and every known snapshot; none of a damaged store.
-pub fn known_anew(store: &Store) -> Option<KnowledgeAnew<'_>>
-    ensures { KnowsAnew (model.known (stored store.now)) result }
+pub fn known(store: &Store) -> Option<Knowledge<'_>>
+    ensures { Knows (model.known (stored store.now)) result }
 {
-    if damage::damaged_anew(store) {
+    if damage::damaged(store) {
         return None;
     }
     let h = store.heads;
-    Some(KnowledgeAnew {
+    Some(Knowledge {
         horizon: h.horizon,
         last: h.last,
         snapshots: &store.snapshots[..h.snapshots],

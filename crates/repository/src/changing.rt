@@ -20,7 +20,7 @@ pub extern "C" fn jibcradle_commit(
     ensures { Changed (commit_call (stored store.old) journal.old used t objects.now values.now) result (stored store.new) journal.new }
 {
     let used = Place { at: used };
-    Moved::from(committing::commit_anew(store, journal, used, t, objects, values))
+    Moved::from(committing::commit(store, journal, used, t, objects, values))
 }
 
 // Takes a gossip message: its stamps beyond the horizon become known snapshots, and the horizon moves.
@@ -36,7 +36,7 @@ pub extern "C" fn jibcradle_gossip(
     ensures { Changed (gossip_call (stored store.old) journal.old used prev curr stamps.now) result (stored store.new) journal.new }
 {
     let used = Place { at: used };
-    Moved::from(gossiping::gossip_anew(store, journal, used, prev, curr, stamps))
+    Moved::from(gossiping::gossip(store, journal, used, prev, curr, stamps))
 }
 
 // Flushes a page: copies for the due snapshots, and its pending values to disk.
@@ -50,5 +50,5 @@ pub extern "C" fn jibcradle_flush(
     ensures { Changed (flush_call (stored store.old) journal.old used page) result (stored store.new) journal.new }
 {
     let used = Place { at: used };
-    Moved::from(flushing::flush_anew(store, journal, used, page))
+    Moved::from(flushing::flush(store, journal, used, page))
 }

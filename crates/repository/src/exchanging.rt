@@ -12,7 +12,7 @@ use journal::place::Place;
 pub extern "C" fn jibcradle_ask(store: &Store, to: u64, buffer: &mut [u8]) -> Reply
     ensures { Shown (model.ask (stored store.now) to buffer.old) result buffer.new }
 {
-    Reply::from(asking::ask_anew(store, to, buffer))
+    Reply::from(asking::ask(store, to, buffer))
 }
 
 // Takes the bytes of a message as gossip.
@@ -26,5 +26,5 @@ pub extern "C" fn jibcradle_hear(
     ensures { Changed (model.hear (stored store.old) journal.old used message.now) result (stored store.new) journal.new }
 {
     let used = Place { at: used };
-    Moved::from(hearing::hear_anew(store, journal, used, message))
+    Moved::from(hearing::hear(store, journal, used, message))
 }

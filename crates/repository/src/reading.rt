@@ -16,7 +16,7 @@ pub extern "C" fn jibcradle_snapshot_read(
 ) -> Reply
     ensures { Shown (reads.snapshot_read (stored store.now) time page buffer.old) result buffer.new }
 {
-    Reply::from(reads::snapshot_read_anew(store, time, page, buffer))
+    Reply::from(reads::snapshot_read(store, time, page, buffer))
 }
 
 // The same at a clock tick.
@@ -29,7 +29,7 @@ pub extern "C" fn jibcradle_clock_read(
 ) -> Reply
     ensures { Shown (reads.clock_read (stored store.now) tick page buffer.old) result buffer.new }
 {
-    Reply::from(reads::clock_read_anew(store, tick, page, buffer))
+    Reply::from(reads::clock_read(store, tick, page, buffer))
 }
 
 // The page as it is now.
@@ -37,7 +37,7 @@ pub extern "C" fn jibcradle_clock_read(
 pub extern "C" fn jibcradle_current_read(store: &Store, page: u64, buffer: &mut [u64]) -> Reply
     ensures { Shown (reads.current_read (stored store.now) page buffer.old) result buffer.new }
 {
-    Reply::from(reads::current_read_anew(store, page, buffer))
+    Reply::from(reads::current_read(store, page, buffer))
 }
 
 fn report(answer: Answer, figures: Figures) -> Report
@@ -59,7 +59,7 @@ fn report(answer: Answer, figures: Figures) -> Report
 pub extern "C" fn jibcradle_standing(store: &Store) -> Report
     ensures { Stood (reads.standing (stored store.now)) result }
 {
-    match reads::standing_anew(store) {
+    match reads::standing(store) {
         Some(figures) => report(Answer::Done(0), figures),
         None => report(Answer::Damaged, NO_FIGURES),
     }
@@ -70,7 +70,7 @@ pub extern "C" fn jibcradle_standing(store: &Store) -> Report
 pub extern "C" fn jibcradle_known(store: &Store) -> Knowledge
     ensures { Knew (reads.known (stored store.now)) result }
 {
-    match reads::known_anew(store) {
+    match reads::known(store) {
         Some(known) => Knowledge {
             code: Answer::Done(0).code(),
             number: 0,

@@ -3,9 +3,9 @@ ghost use Rattle.std.specs.Prelude.{◌≡◌};
 ghost use Rattle.model.specs.Answers.{code_of, number_of};
 ghost use Rattle.repository.specs.Faces.{Told};
 
-use changes::settling::ChangedAnew;
+use changes::settling::Changed;
 use model::Answer;
-use restart::StartedAnew;
+use restart::Started;
 
 // What a change or a start answers: the paper's code and number, and the place for the next call.
 #[repr(C)]
@@ -50,10 +50,10 @@ pub struct Knowledge {
     pub stamps: [u64; 64],
 }
 
-impl From<ChangedAnew> for Moved {
+impl From<Changed> for Moved {
     ghost from_gives = { λ c r. Told c.answer c.place.at r };
 
-    fn from(c: ChangedAnew) -> Moved {
+    fn from(c: Changed) -> Moved {
         Moved {
             code: c.answer.code(),
             number: c.answer.number(),
@@ -62,10 +62,10 @@ impl From<ChangedAnew> for Moved {
     }
 }
 
-impl From<StartedAnew> for Moved {
+impl From<Started> for Moved {
     ghost from_gives = { λ s r. Told s.answer s.place.at r };
 
-    fn from(s: StartedAnew) -> Moved {
+    fn from(s: Started) -> Moved {
         Moved {
             code: s.answer.code(),
             number: s.answer.number(),

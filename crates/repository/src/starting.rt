@@ -10,7 +10,7 @@ use crate::{Moved, Store};
 pub extern "C" fn jibcradle_fresh(store: &mut Store) -> Moved
     ensures { Begun starts.fresh_start result (stored store.new) }
 {
-    Moved::from(restart::fresh_anew(store))
+    Moved::from(restart::fresh(store))
 }
 
 // The store that a journal's whole records make.
@@ -18,5 +18,5 @@ pub extern "C" fn jibcradle_fresh(store: &mut Store) -> Moved
 pub extern "C" fn jibcradle_restart(store: &mut Store, journal: &[u8]) -> Moved
     ensures { Begun (starts.restart journal.now) result (stored store.new) }
 {
-    Moved::from(restart::restart_anew(store, journal))
+    Moved::from(restart::restart(store, journal))
 }

@@ -24,7 +24,7 @@ fn carry(store: &mut Store, index: &mut Index, t: u64, objects: &[u64], values: 
     if !accepts(verdict) {
         return false;
     }
-    commits::apply_commit_anew(store, t, objects, values, index);
+    commits::apply_commit(store, t, objects, values, index);
     true
 }
 

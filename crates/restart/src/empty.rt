@@ -6,7 +6,7 @@ ghost use Rattle.tables.specs.Contents.{stored, Counted};
 ghost use Rattle.restart.specs.Promises.{Rebuilt, FreshKept};
 ghost use Rattle.restart.specs.Turns.{zeros};
 
-use crate::StartedAnew;
+use crate::Started;
 use journal::place::Place;
 use model::Answer;
 use tables::{Disk, Heads, Store};
@@ -36,12 +36,12 @@ pub fn wipe(store: &mut Store)
 }
 
 // A fresh store with an answer, at the place 0.
-pub fn start(store: &mut Store, answer: Answer) -> StartedAnew
+pub fn start(store: &mut Store, answer: Answer) -> Started
     ensures rebuilt { Rebuilt (refused answer) result.answer (stored store.new) result.place.at }
     ensures kept { FreshKept store.old store.new }
 {
     wipe(store);
-    StartedAnew {
+    Started {
         answer,
         place: Place { at: 0 },
     }

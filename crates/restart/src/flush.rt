@@ -5,7 +5,7 @@ ghost use Rattle.tables.specs.Contents.{stored};
 ghost use Rattle.restart.specs.Turns.{Held, Carried};
 
 use crate::replay::accepts;
-use flushes::PlanAnew;
+use flushes::Plan;
 use tables::Store;
 
 pub fn carry(store: &mut Store, page: u64) -> bool
@@ -13,11 +13,11 @@ pub fn carry(store: &mut Store, page: u64) -> bool
     requires page_bound { page < 32 }
     ensures { Carried (stored store.old) (changes.flush page) result store.new }
 {
-    let mut plan = PlanAnew::empty();
-    let verdict = flushes::judge_flush_anew(store, page, &mut plan);
+    let mut plan = Plan::empty();
+    let verdict = flushes::judge_flush(store, page, &mut plan);
     if !accepts(verdict) {
         return false;
     }
-    flushes::apply_flush_anew(store, page, &plan);
+    flushes::apply_flush(store, page, &plan);
     true
 }

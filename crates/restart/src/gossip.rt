@@ -16,11 +16,11 @@ fn carry(store: &mut Store, prev: u64, curr: u64, stamps: &[u64]) -> bool
     ensures carried { Carried (stored store.old) (changes.gossip prev curr stamps.now) result store.new }
     ensures kept { EntriesKept store.old store.new }
 {
-    let verdict = gossips::judge_gossip_anew(store, prev, curr, stamps);
+    let verdict = gossips::judge_gossip(store, prev, curr, stamps);
     if !accepts(verdict) {
         return false;
     }
-    gossips::apply_gossip_anew(store, curr, stamps);
+    gossips::apply_gossip(store, curr, stamps);
     true
 }
 

@@ -21,13 +21,13 @@ use tables::Store;
 // What a start hands back: the answer, and the place for the next call.
 // Kept: a change hands back the same, but one type of both would have to stand in a crate below both, none of which has a use for it.
 #[derive(Clone, Copy)]
-pub struct StartedAnew {
+pub struct Started {
     pub answer: Answer,
     pub place: Place,
 }
 
 // Both disks 0, the heads of a store without a row, and the place 0, from where the journal counts as empty.
-pub fn fresh_anew(store: &mut Store) -> StartedAnew
+pub fn fresh(store: &mut Store) -> Started
     ensures rebuilt { Rebuilt model.fresh_start result.answer (stored store.new) result.place.at }
     ensures kept { FreshKept store.old store.new }
 {
@@ -52,11 +52,11 @@ fn resumed(store: &mut Store, journal: &[u8]) -> Result<Place, Answer>
 }
 
 // The store that the journal's whole records make, or the fresh one where the journal is refused.
-pub fn restart_anew(store: &mut Store, journal: &[u8]) -> StartedAnew
+pub fn restart(store: &mut Store, journal: &[u8]) -> Started
     ensures { Rebuilt (model.restart journal.now) result.answer (stored store.new) result.place.at }
 {
     match resumed(store, journal) {
-        Ok(place) => StartedAnew {
+        Ok(place) => Started {
             answer: Answer::Done(place.at as u64),
             place,
         },

@@ -8,7 +8,7 @@ use Rattle.model.specs.Lists.{both, pick, kept}
 use Rattle.tables.proofs.Backward.{back_end}
 use Rattle.tables.proofs.Cases.{by_test}
 use Rattle.views.specs.Views.{lay}
-use Rattle.shares.specs.Shares.{rows_at, NumberedAnew}
+use Rattle.shares.specs.Shares.{rows_at, Numbered}
 use Rattle.shares.proofs.Numbers.{rows_next}
 
 -- rows that pass two tests
@@ -41,6 +41,6 @@ module _ {A : Type 0} (f : A → Bool) (slot word : A → ℕ) (d : A) (l : List
   lay_end j h out = rw (back_end j ns h)
 
   -- those listed are laid as all that pass two tests
-  pub lay_listed : (g : A → Bool) (n : ℕ) → NumberedAnew d g l n ns → (out : List ℕ)
+  pub lay_listed : (g : A → Bool) (n : ℕ) → Numbered d g l n ns → (out : List ℕ)
       → lay f slot word (rows_at d l ns) out ≡ lay (λ x. both (g x) (f x)) slot word (take n l) out
   lay_listed g n a out = ap (λ r. lay f slot word r out) a.rows ∙ lay_both g f slot word (take n l) out

@@ -22,14 +22,14 @@ use Rattle.tables.proofs.Counts.{up_to_take}
 use Rattle.tables.proofs.Rows.{pasts_length, pendings_length}
 use Rattle.tables.proofs.Searches.{both_left, both_right}
 use Rattle.std.proofs.Common.{Some}
-use Rattle.views.specs.declared.ViewAnew.{ViewAnew}
+use Rattle.views.specs.declared.View.{View}
 use Rattle.views.specs.declared.Word.TheVariants.{Age}
-use Rattle.views.specs.Views.{viewed_anew, part_of_anew, covers_b_anew, shows_b_anew, LookableAnew}
+use Rattle.views.specs.Views.{viewed, part_of, covers_b, shows_b, Lookable}
 use Rattle.views.proofs.Laying.{word_or}
 use Rattle.views.proofs.Showing.{spanned, past_shown, pending_shown}
 use Rattle.views.proofs.Sights.{Sized}
 use Rattle.shares.specs.Shares.{row_of_page}
-use Rattle.shares.specs.Lulls.{newer_of, newest_of, Lull, outside_b, StillAnew}
+use Rattle.shares.specs.Lulls.{newer_of, newest_of, Lull, outside_b, Still}
 
 -- ---- the newer of two stamps
 module _ (bound b w : ℕ) where
@@ -87,40 +87,40 @@ outside_low l w s n h m b e =
 
 -- ---- the ages of a page as of a stamp n
 module _ (p n : ℕ) where
-  abbrev pub ages_at_anew : ViewAnew
-  ages_at_anew = record { page = p; as_of = Some n; word = Age }
+  abbrev pub ages_at : View
+  ages_at = record { page = p; as_of = Some n; word = Age }
 
-  row_by_anew : (q : Past) → covers_b_anew ages_at_anew q ≡ true → q.from ≤ n
-  row_by_anew q e =
+  row_by : (q : Past) → covers_b ages_at q ≡ true → q.from ≤ n
+  row_by q e =
       leb-true q.from n (both_left (leb q.from n) (ltb n q.until) (both_right (eqb (q.object / 16) p) (both (leb q.from n) (ltb n q.until)) e))
 
-  entry_by_anew : (x : Pending) → shows_b_anew ages_at_anew x ≡ true → x.latest ≤ n
-  entry_by_anew x e = leb-true x.latest n (both_right (eqb (x.object / 16) p) (leb x.latest n) e)
+  entry_by : (x : Pending) → shows_b ages_at x ≡ true → x.latest ≤ n
+  entry_by x e = leb-true x.latest n (both_right (eqb (x.object / 16) p) (leb x.latest n) e)
 
-  row_on_page : (q : Past) → covers_b_anew ages_at_anew q ≡ true → row_of_page p q ≡ true
+  row_on_page : (q : Past) → covers_b ages_at q ≡ true → row_of_page p q ≡ true
   row_on_page q e = both_left (eqb (page_of q.object) p) _ e
 
-  entry_on_page : (x : Pending) → shows_b_anew ages_at_anew x ≡ true → of_page p x ≡ true
+  entry_on_page : (x : Pending) → shows_b ages_at x ≡ true → of_page p x ≡ true
   entry_on_page x e = both_left (eqb (page_of x.object) p) _ e
 
   -- in a lull, no slot's value was written beyond s
-  pub still_slot_anew : (w : Written) (h : Heads) → Sized w → LookableAnew w h p → (l : Lull) → StillAnew w h p l
+  pub still_slot : (w : Written) (h : Heads) → Sized w → Lookable w h p → (l : Lull) → Still w h p l
       → (s : ℕ) → l.from ≤ s → n < l.until → (k : ℕ) → k < 16 → get_or w.dated (object_at p k) 0 ≤ s
-      → viewed_anew (contents w.disk w.dated w.pending w.past [] [] [] h) ages_at_anew (object_at p k) ≤ s
-  still_slot_anew w h z a l t s b e k m d =
+      → viewed (contents w.disk w.dated w.pending w.past [] [] [] h) ages_at (object_at p k) ≤ s
+  still_slot w h z a l t s b e k m d =
       let es = take h.pending (pendings w.pending) in
       let qs = take h.past (pasts w.past) in
       let o = object_at p k in
       let x : Seen = record { value = get_or w.disk o 0; stamp = get_or w.dated o 0 } in
       let under =
-      word_low (covers_b_anew ages_at_anew) _ (λ q. outside_b l q.from) (λ q. slot_of q.object) (λ q. part_of_anew Age (past_seen q)) k s row_on_page
-      (λ q c y. outside_low l q.from s n b e (row_by_anew q c) y) qs (get_or w.dated o 0) d t.past_rows in
-      let low = rw (past_shown ages_at_anew k m (Some n) refl x qs) at under in
+      word_low (covers_b ages_at) _ (λ q. outside_b l q.from) (λ q. slot_of q.object) (λ q. part_of Age (past_seen q)) k s row_on_page
+      (λ q c y. outside_low l q.from s n b e (row_by q c) y) qs (get_or w.dated o 0) d t.past_rows in
+      let low = rw (past_shown ages_at k m (Some n) refl x qs) at under in
       let all =
-      word_low (shows_b_anew ages_at_anew) _ (λ q. outside_b l q.latest) (λ q. slot_of q.object) (λ q. part_of_anew Age (pending_seen q)) k s entry_on_page
-      (λ q c y. outside_low l q.latest s n b e (entry_by_anew q c) y) es _ low t.entries in
+      word_low (shows_b ages_at) _ (λ q. outside_b l q.latest) (λ q. slot_of q.object) (λ q. part_of Age (pending_seen q)) k s entry_on_page
+      (λ q c y. outside_low l q.latest s n b e (entry_by q c) y) es _ low t.entries in
       rw (
         up_to_take (pending_of []) h.pending (pendings w.pending) (omega (arith, pendings_length w.pending 128 z.pending_rows, a.pending_count)),
         up_to_take (past_of []) h.past (pasts w.past) (omega (arith, pasts_length w.past 256 z.past_rows, a.past_count)),
       )
-      (rw (pending_shown ages_at_anew k m (Some n) refl (spanned (Some n) o qs x) es a.single) at all)
+      (rw (pending_shown ages_at k m (Some n) refl (spanned (Some n) o qs x) es a.single) at all)

@@ -11,7 +11,7 @@ use lib.Dec.{ltb}
 use borrow.Author.Tests.{ltb-true, ltb-false}
 use Rattle.model.specs.Lists.{kept}
 use Rattle.tables.proofs.Cases.{by_test}
-use Rattle.shares.specs.Shares.{rows_at, NumberedAnew}
+use Rattle.shares.specs.Shares.{rows_at, Numbered}
 
 pub next_row : {A : Type 0} (l : List A) (n i : ℕ) (d : A) → i < n → n ≤ length l → drop i (take n l) ≡ get_or l i d ∷ drop (i + 1) (take n l)
 next_row l n i d h k = rw (add-one, slice-cons i n l d)
@@ -54,9 +54,9 @@ pub rows_next : {A : Type 0} (d : A) (l : List A) (ns : List ℕ) (j : ℕ) → 
 rows_next d l ns j h = rw (add-one, drop-cons ns j 0 h)
 
 -- ---- the rows that are numbered
-module _ {A : Type 0} {d : A} {f : A → Bool} {l : List A} {n : ℕ} {ns : List ℕ} (a : NumberedAnew d f l n ns) where
-  pub numbered_count_anew : length ns ≡ length (kept f (take n l))
-  numbered_count_anew = sym (rows_length d l ns) ∙ ap length a.rows
+module _ {A : Type 0} {d : A} {f : A → Bool} {l : List A} {n : ℕ} {ns : List ℕ} (a : Numbered d f l n ns) where
+  pub numbered_count : length ns ≡ length (kept f (take n l))
+  numbered_count = sym (rows_length d l ns) ∙ ap length a.rows
 
-  pub numbered_row_anew : {x : A} (j : ℕ) → j < length ns → x ≡ get_or l (get_or ns j 0) d → x ≡ get_or (kept f (take n l)) j d
-  numbered_row_anew j h e = e ∙ sym (rows_row d l ns j h) ∙ ap (λ r. get_or r j d) a.rows
+  pub numbered_row : {x : A} (j : ℕ) → j < length ns → x ≡ get_or l (get_or ns j 0) d → x ≡ get_or (kept f (take n l)) j d
+  numbered_row j h e = e ∙ sym (rows_row d l ns j h) ∙ ap (λ r. get_or r j d) a.rows

@@ -17,14 +17,14 @@ use Rattle.tables.specs.Rows.{pending_of, past_of, pendings, pasts}
 use Rattle.tables.proofs.Cases.{by_test}
 use Rattle.std.proofs.Common.{Some}
 use Rattle.tables.specs.declared.Written.{Written}
-use Rattle.views.specs.declared.ViewAnew.{ViewAnew}
+use Rattle.views.specs.declared.View.{View}
 use Rattle.views.specs.declared.Word.{Word}
 use Rattle.views.specs.Rows.{covers_by, shows_by}
-use Rattle.views.specs.Views.{part_of_anew, lay, LookableAnew}
+use Rattle.views.specs.Views.{part_of, lay, Lookable}
 use Rattle.views.proofs.Sights.{Sized, on_disk, below_past, sight_page}
-use Rattle.shares.specs.declared.ShareAnew.{ShareAnew}
-use Rattle.shares.specs.Shares.{row_of_page, rows_at, SharedAnew}
-use Rattle.shares.specs.Many.{Pages, page_at_anew}
+use Rattle.shares.specs.declared.Share.{Share}
+use Rattle.shares.specs.Shares.{row_of_page, rows_at, Shared}
+use Rattle.shares.specs.Many.{Pages, page_at}
 use Rattle.shares.proofs.Laying.{lay_listed}
 
 -- ---- stamps in order
@@ -97,16 +97,16 @@ pub pages_same : {f g : ℕ → List ℕ} {stamps : List ℕ} {at : ℕ} {words�
 pages_same {f} {g} {stamps} e p = record { pages = λ j h. p.pages j h ∙ e (get_or stamps j 0); untouched = p.untouched; size = p.size }
 
 -- ---- the page as of a stamp: its rows over its words on disk, and its entries over them
-pub page_listed : (w : Written) (h : Heads) (page : ℕ) (word : Word) → Sized w → LookableAnew w h page
-    → (share : ShareAnew) → SharedAnew w h page share → (s : ℕ)
-    → lay (shows_by (Some s)) (λ e. slot_of e.object) (λ e. part_of_anew word (pending_seen e)) (rows_at (pending_of []) (pendings w.pending) share.entries)
-    (lay (covers_by (Some s)) (λ q. slot_of q.object) (λ q. part_of_anew word (past_seen q)) (rows_at (past_of []) (pasts w.past) share.rows)
-    (page16 (λ k. part_of_anew word (record { value = get_or w.disk (object_at page k) 0; stamp = get_or w.dated (object_at page k) 0 }))))
-    ≡ page_at_anew w h page word s
+pub page_listed : (w : Written) (h : Heads) (page : ℕ) (word : Word) → Sized w → Lookable w h page
+    → (share : Share) → Shared w h page share → (s : ℕ)
+    → lay (shows_by (Some s)) (λ e. slot_of e.object) (λ e. part_of word (pending_seen e)) (rows_at (pending_of []) (pendings w.pending) share.entries)
+    (lay (covers_by (Some s)) (λ q. slot_of q.object) (λ q. part_of word (past_seen q)) (rows_at (past_of []) (pasts w.past) share.rows)
+    (page16 (λ k. part_of word (record { value = get_or w.disk (object_at page k) 0; stamp = get_or w.dated (object_at page k) 0 }))))
+    ≡ page_at w h page word s
 page_listed w h page word z a share b s =
-    let v : ViewAnew = record { page = page; as_of = Some s; word = word } in
-    let out = page16 (λ k. part_of_anew word (on_disk w h v k)) in
-    let under = lay_listed (covers_by (Some s)) (λ q. slot_of q.object) (λ q. part_of_anew word (past_seen q)) (past_of []) (pasts w.past) share.rows (row_of_page page) h.past b.past_rows out
+    let v : View = record { page = page; as_of = Some s; word = word } in
+    let out = page16 (λ k. part_of word (on_disk w h v k)) in
+    let under = lay_listed (covers_by (Some s)) (λ q. slot_of q.object) (λ q. part_of word (past_seen q)) (past_of []) (pasts w.past) share.rows (row_of_page page) h.past b.past_rows out
     ∙ below_past w h v refl in
-    lay_listed (shows_by (Some s)) (λ e. slot_of e.object) (λ e. part_of_anew word (pending_seen e)) (pending_of []) (pendings w.pending) share.entries (of_page page) h.pending b.entries _
+    lay_listed (shows_by (Some s)) (λ e. slot_of e.object) (λ e. part_of word (pending_seen e)) (pending_of []) (pendings w.pending) share.entries (of_page page) h.pending b.entries _
     ∙ sight_page w h v z a under [] [] []

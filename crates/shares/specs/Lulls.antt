@@ -26,6 +26,6 @@ abbrev pub outside_b : Lull → ℕ → Bool
 outside_b l w = either (leb w l.from) (leb l.until w)
 
 -- the page's entries and past rows were written outside a lull
-pub record StillAnew (w : Written) (h : Heads) (page : ℕ) (l : Lull) : Type 0 where
+pub record Still (w : Written) (h : Heads) (page : ℕ) (l : Lull) : Type 0 where
   pub entries : all_b (λ e. outside_b l e.latest) (kept (of_page page) (take h.pending (pendings w.pending))) ≡ true
   pub past_rows : all_b (λ q. outside_b l q.from) (kept (row_of_page page) (take h.past (pasts w.past))) ≡ true

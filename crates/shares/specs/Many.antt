@@ -5,7 +5,7 @@ use Rattle.tables.specs.declared.Heads.{Heads}
 use Rattle.tables.specs.Contents.{contents}
 use Rattle.tables.specs.declared.Written.{Written}
 use Rattle.views.specs.declared.Word.{Word}
-use Rattle.views.specs.Views.{viewed_anew}
+use Rattle.views.specs.Views.{viewed}
 
 -- stamps in order, the earlier first; two may be equal
 abbrev pub Ordered : List ℕ → Type 0
@@ -24,5 +24,5 @@ pub record Pages (f : ℕ → List ℕ) (stamps : List ℕ) (at : ℕ) (words₀
   pub size : length words ≡ length words₀
 
 -- the page's values, or their ages, as of a stamp where no copy serves
-abbrev pub page_at_anew : Written → Heads → ℕ → Word → ℕ → List ℕ
-page_at_anew w h p word s = page16 (λ k. viewed_anew (contents w.disk w.dated w.pending w.past [] [] [] h) (record { page = p; as_of = Some s; word = word }) (object_at p k))
+abbrev pub page_at : Written → Heads → ℕ → Word → ℕ → List ℕ
+page_at w h p word s = page16 (λ k. viewed (contents w.disk w.dated w.pending w.past [] [] [] h) (record { page = p; as_of = Some s; word = word }) (object_at p k))

@@ -7,7 +7,7 @@ use Rattle.model.specs.Changes.{of_page}
 use Rattle.tables.specs.declared.Heads.{Heads}
 use Rattle.tables.specs.Rows.{pending_of, past_of, pendings, pasts}
 use Rattle.tables.specs.declared.Written.{Written}
-use Rattle.shares.specs.declared.ShareAnew.{ShareAnew}
+use Rattle.shares.specs.declared.Share.{Share}
 
 -- a past row of the page
 abbrev pub row_of_page : ℕ → Past → Bool
@@ -19,11 +19,11 @@ rows_at d l [] = []
 rows_at d l (i ∷ is) = get_or l i d ∷ rows_at d l is
 
 -- the numbers are those of the rows that pass, among the first n, in their order
-pub record NumberedAnew {A : Type 0} (d : A) (f : A → Bool) (l : List A) (n : ℕ) (numbers : List ℕ) : Type 0 where
+pub record Numbered {A : Type 0} (d : A) (f : A → Bool) (l : List A) (n : ℕ) (numbers : List ℕ) : Type 0 where
   pub rows : rows_at d l numbers ≡ kept f (take n l)
   pub inside : (j : ℕ) → j < length numbers → get_or numbers j 0 < n
   pub fewer : length numbers ≤ n
 
-pub record SharedAnew (w : Written) (h : Heads) (page : ℕ) (share : ShareAnew) : Type 0 where
-  pub past_rows : NumberedAnew (past_of []) (row_of_page page) (pasts w.past) h.past share.rows
-  pub entries : NumberedAnew (pending_of []) (of_page page) (pendings w.pending) h.pending share.entries
+pub record Shared (w : Written) (h : Heads) (page : ℕ) (share : Share) : Type 0 where
+  pub past_rows : Numbered (past_of []) (row_of_page page) (pasts w.past) h.past share.rows
+  pub entries : Numbered (pending_of []) (of_page page) (pendings w.pending) h.pending share.entries

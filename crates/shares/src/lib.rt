@@ -8,7 +8,7 @@ pub mod quiet;
 
 ghost use Rattle.std.specs.Prelude.{◌≡◌, [], ◌∷◌, ◌++◌, ◌<◌, ◌≤◌, length, eqb};
 ghost use Rattle.model.specs.Store.{page_of};
-ghost use Rattle.shares.specs.Shares.{NumberedAnew, SharedAnew};
+ghost use Rattle.shares.specs.Shares.{Numbered, Shared};
 
 use listed::Listed;
 use model::{Past, Pending};
@@ -17,16 +17,16 @@ use views::rows::Row;
 
 // A page's past rows and its entries, by their numbers in the tables, in their order.
 #[derive(Drop)]
-pub struct ShareAnew {
+pub struct Share {
     pub rows: Listed<u8, 256>,
     pub entries: Listed<u8, 128>,
 }
 
-impl ShareAnew {
+impl Share {
     pub fn none() -> Self
         ensures { (result.rows ≡ []) × (result.entries ≡ []) }
     {
-        ShareAnew {
+        Share {
             rows: Listed::none(0),
             entries: Listed::none(0),
         }
@@ -36,7 +36,7 @@ impl ShareAnew {
 // The numbers of those of the first n rows that are of the page.
 fn number<R: Row, const N: usize>(t: &R::Table, n: usize, page: u64, numbers: &mut Listed<u8, N>)
     requires { (n ≤ R.room) × (n ≤ N) × (n ≤ 256) × (n ≤ length (R.rows t.now)) }
-    ensures { NumberedAnew R.blank (λ r. eqb (page_of (R.object_of r)) page) (R.rows t.now) n numbers.new }
+    ensures { Numbered R.blank (λ r. eqb (page_of (R.object_of r)) page) (R.rows t.now) n numbers.new }
 {
     numbers.clear();
     for i in 0..n {
@@ -46,9 +46,9 @@ fn number<R: Row, const N: usize>(t: &R::Table, n: usize, page: u64, numbers: &m
     }
 }
 
-pub fn find_share_anew(w: &Written, h: Heads, page: u64, share: &mut ShareAnew)
+pub fn find_share(w: &Written, h: Heads, page: u64, share: &mut Share)
     requires { (h.pending ≤ 128) × (h.past ≤ 256) }
-    ensures { SharedAnew w.now h page share.new }
+    ensures { Shared w.now h page share.new }
 {
     number::<Past, 256>(&w.past, h.past, page, &mut share.rows);
     number::<Pending, 128>(&w.pending, h.pending, page, &mut share.entries);

@@ -2,19 +2,19 @@
 ghost use Rattle.std.specs.Prelude.{◌≡◌, List, [], ℕ, ◌<◌, length, get_or};
 ghost use Rattle.model.specs.Store.{page16, object_at, slot_of};
 ghost use Rattle.tables.specs.Contents.{contents};
-ghost use Rattle.views.specs.Views.{viewed_anew, part_of_anew, lay, LookableAnew};
-ghost use Rattle.shares.specs.Shares.{rows_at, SharedAnew};
+ghost use Rattle.views.specs.Views.{viewed, part_of, lay, Lookable};
+ghost use Rattle.shares.specs.Shares.{rows_at, Shared};
 
-use crate::ShareAnew;
+use crate::Share;
 use model::{Past, Pending};
 use tables::{Heads, Written};
 use views::rows::Row;
-use views::{ViewAnew, rows};
+use views::{View, rows};
 
 // The numbered rows laid, from the last to the first.
-fn lay_numbered<R: Row>(t: &R::Table, numbers: &[u8], v: ViewAnew, out: &mut [u64])
+fn lay_numbered<R: Row>(t: &R::Table, numbers: &[u8], v: View, out: &mut [u64])
     requires { (length out.old ≡ 16) × ((j : ℕ) → j < length numbers.now → get_or numbers.now j 0 < R.room) }
-    ensures { out.new ≡ lay (R.shown_b v.as_of) (λ r. slot_of (R.object_of r)) (λ r. part_of_anew v.word (R.seen_of r)) (rows_at R.blank (R.rows t.now) numbers.now) out.old }
+    ensures { out.new ≡ lay (R.shown_b v.as_of) (λ r. slot_of (R.object_of r)) (λ r. part_of v.word (R.seen_of r)) (rows_at R.blank (R.rows t.now) numbers.now) out.old }
 {
     for j in (0..numbers.len()).rev() {
         let r = R::at(t, usize::from(numbers[j]));
@@ -24,12 +24,12 @@ fn lay_numbered<R: Row>(t: &R::Table, numbers: &[u8], v: ViewAnew, out: &mut [u6
 }
 
 // The page as the view asks, where no copy serves.
-pub fn look_at_anew(w: &Written, h: Heads, share: &ShareAnew, v: ViewAnew, out: &mut [u64])
-    requires lookable { LookableAnew w.now h v.page }
-    requires shared { SharedAnew w.now h v.page share.now × (length out.old ≡ 16) }
-    ensures { (snapshots : List ℕ) (copies : List (List ℕ)) (copied : List ℕ) → out.new ≡ page16 (λ k. viewed_anew (contents w.now.disk w.now.dated w.now.pending w.now.past snapshots copies copied h) v (object_at v.page k)) }
+pub fn look_at(w: &Written, h: Heads, share: &Share, v: View, out: &mut [u64])
+    requires lookable { Lookable w.now h v.page }
+    requires shared { Shared w.now h v.page share.now × (length out.old ≡ 16) }
+    ensures { (snapshots : List ℕ) (copies : List (List ℕ)) (copied : List ℕ) → out.new ≡ page16 (λ k. viewed (contents w.now.disk w.now.dated w.now.pending w.now.past snapshots copies copied h) v (object_at v.page k)) }
 {
-    views::lay_disk_anew(w, v.page, v.word, out);
+    views::lay_disk(w, v.page, v.word, out);
     if v.as_of.is_some() {
         lay_numbered::<Past>(&w.past, share.rows.listed(), v, out);
     }

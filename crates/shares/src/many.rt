@@ -2,11 +2,11 @@
 ghost use Rattle.std.specs.Prelude.{◌≡◌, Some, List, [], ℕ, ◌+◌, ◌*◌, ◌<◌, ◌≤◌, length, get_or, set};
 ghost use Rattle.model.specs.Lists.{pick};
 ghost use Rattle.model.specs.Store.{page16, object_at, slot_of};
-ghost use Rattle.views.specs.Views.{part_of_anew, lay, LookableAnew};
-ghost use Rattle.shares.specs.Shares.{rows_at, SharedAnew};
-ghost use Rattle.shares.specs.Many.{Ordered, FirstFrom, Pages, page_at_anew};
+ghost use Rattle.views.specs.Views.{part_of, lay, Lookable};
+ghost use Rattle.shares.specs.Shares.{rows_at, Shared};
+ghost use Rattle.shares.specs.Many.{Ordered, FirstFrom, Pages, page_at};
 
-use crate::ShareAnew;
+use crate::Share;
 use model::{Past, Pending};
 use tables::{Heads, Written};
 use views::Word;
@@ -15,18 +15,18 @@ use views::rows::Row;
 // The page's words on disk, n times.
 fn lay_disk_words(w: &Written, page: u64, word: Word, n: usize, words: &mut [u64], at: usize)
     requires { (page < 32) × (at + 16 * n ≤ length words.old) }
-    ensures { (stamps : List ℕ) → length stamps ≡ n → Pages (λ _. page16 (λ k. part_of_anew word (record { value = get_or w.now.disk (object_at page k) 0; stamp = get_or w.now.dated (object_at page k) 0 }))) stamps at words.old words.new }
+    ensures { (stamps : List ℕ) → length stamps ≡ n → Pages (λ _. page16 (λ k. part_of word (record { value = get_or w.now.disk (object_at page k) 0; stamp = get_or w.now.dated (object_at page k) 0 }))) stamps at words.old words.new }
 {
     for j in 0..n {
         let from = at + 16 * j;
-        views::lay_disk_anew(w, page, word, &mut words[from..from + 16]);
+        views::lay_disk(w, page, word, &mut words[from..from + 16]);
     }
 }
 
 // The row's word, at its slot, for each stamp as of which it is shown.
 fn lay_shown<R: Row>(stamps: &[u64], r: R, word: Word, words: &mut [u64], at: usize)
     requires { Ordered stamps.now × (at + 16 * length stamps.now ≤ length words.old) }
-    ensures { (f : ℕ → List ℕ) (w : List ℕ) → Pages f stamps.now at w words.old → Pages (λ s. pick (R.shown_b (Some s) r) (set (f s) (slot_of (R.object_of r)) (part_of_anew word (R.seen_of r))) (f s)) stamps.now at w words.new }
+    ensures { (f : ℕ → List ℕ) (w : List ℕ) → Pages f stamps.now at w words.old → Pages (λ s. pick (R.shown_b (Some s) r) (set (f s) (slot_of (R.object_of r)) (part_of word (R.seen_of r))) (f s)) stamps.now at w words.new }
 {
     let seen = r.seen();
     let shown = word.of(seen);
@@ -51,7 +51,7 @@ fn lay_numbered<R: Row>(
 )
     requires inside { (j : ℕ) → j < length numbers.now → get_or numbers.now j 0 < R.room }
     requires ordered { Ordered stamps.now × (at + 16 * length stamps.now ≤ length words.old) }
-    ensures { (f : ℕ → List ℕ) (w : List ℕ) → Pages f stamps.now at w words.old → Pages (λ s. lay (R.shown_b (Some s)) (λ r. slot_of (R.object_of r)) (λ r. part_of_anew word (R.seen_of r)) (rows_at R.blank (R.rows t.now) numbers.now) (f s)) stamps.now at w words.new }
+    ensures { (f : ℕ → List ℕ) (w : List ℕ) → Pages f stamps.now at w words.old → Pages (λ s. lay (R.shown_b (Some s)) (λ r. slot_of (R.object_of r)) (λ r. part_of word (R.seen_of r)) (rows_at R.blank (R.rows t.now) numbers.now) (f s)) stamps.now at w words.new }
 {
     for j in (0..numbers.len()).rev() {
         let r = R::at(t, usize::from(numbers[j]));
@@ -60,20 +60,20 @@ fn lay_numbered<R: Row>(
 }
 
 // The page as of each stamp, where no copy serves.
-pub fn look_at_all_anew(
+pub fn look_at_all(
     w: &Written,
     h: Heads,
-    share: &ShareAnew,
+    share: &Share,
     page: u64,
     word: Word,
     stamps: &[u64],
     words: &mut [u64],
     at: usize,
 )
-    requires lookable { LookableAnew w.now h page }
-    requires shared { SharedAnew w.now h page share.now }
+    requires lookable { Lookable w.now h page }
+    requires shared { Shared w.now h page share.now }
     requires ordered { Ordered stamps.now × (at + 16 * length stamps.now ≤ length words.old) }
-    ensures { Pages (page_at_anew w.now h page word) stamps.now at words.old words.new }
+    ensures { Pages (page_at w.now h page word) stamps.now at words.old words.new }
 {
     lay_disk_words(w, page, word, stamps.len(), words, at);
     lay_numbered::<Past>(&w.past, share.rows.listed(), stamps, word, words, at);

@@ -1,10 +1,10 @@
 // The newest of a page's writing stamps up to a bound: behind it, and up to the bound, nothing of the page was written.
 ghost use Rattle.std.specs.Prelude.{◌≡◌, ℕ, ◌+◌, ◌<◌, ◌≤◌, length, get_or};
 ghost use Rattle.model.specs.Store.{object_at};
-ghost use Rattle.shares.specs.Shares.{rows_at, SharedAnew};
-ghost use Rattle.shares.specs.Lulls.{newer_of, newest_of, StillAnew};
+ghost use Rattle.shares.specs.Shares.{rows_at, Shared};
+ghost use Rattle.shares.specs.Lulls.{newer_of, newest_of, Still};
 
-use crate::ShareAnew;
+use crate::Share;
 use model::{Past, Pending};
 use tables::{Disk, Heads, Written};
 use views::rows::Row;
@@ -47,10 +47,10 @@ fn newest<R: Row>(t: &R::Table, numbers: &[u8], bound: u64, least: u64) -> u64
 }
 
 // The newest of the page's stamps on disk, and of those up to the bound that wrote its past rows and its entries.
-pub fn newest_up_to_anew(w: &Written, h: Heads, page: u64, share: &ShareAnew, bound: u64) -> u64
-    requires shared { SharedAnew w.now h page share.now }
+pub fn newest_up_to(w: &Written, h: Heads, page: u64, share: &Share, bound: u64) -> u64
+    requires shared { Shared w.now h page share.now }
     requires counts { (h.pending ≤ 128) × (h.past ≤ 256) × (page < 32) }
-    ensures still { StillAnew w.now h page (record { from = result; until = bound + 1 }) }
+    ensures still { Still w.now h page (record { from = result; until = bound + 1 }) }
     ensures by_index { (k : ℕ) → k < 16 → get_or w.now.dated (object_at page k) 0 ≤ result }
 {
     let a = newest_on_disk(&w.dated, page);

@@ -18,18 +18,18 @@ use Rattle.tables.specs.Lookups.{find_pending, row_of, Indexed}
 use Rattle.tables.proofs.Bridges.{found_row, lookup_row, lookup_none}
 use Rattle.tables.proofs.Cases.{by_test, clash}
 use Rattle.views.specs.declared.Word.{Word}
-use Rattle.views.specs.declared.ViewAnew.{ViewAnew}
+use Rattle.views.specs.declared.View.{View}
 use Rattle.views.specs.Rows.{covers_by, shows_by}
-use Rattle.views.specs.Views.{part_of_anew, covers_b_anew, shows_b_anew, lay}
+use Rattle.views.specs.Views.{part_of, covers_b, shows_b, lay}
 use Rattle.views.proofs.Laying.{word_or, lay_at}
 use Rattle.views.proofs.Slots.{object_test}
 
 -- ---- the rows and the entries that a view shows
-abbrev pub pasts_over : ViewAnew → List Past → List ℕ → List ℕ
-pasts_over v = lay (covers_b_anew v) (λ q. slot_of q.object) (λ q. part_of_anew v.word (past_seen q))
+abbrev pub pasts_over : View → List Past → List ℕ → List ℕ
+pasts_over v = lay (covers_b v) (λ q. slot_of q.object) (λ q. part_of v.word (past_seen q))
 
-abbrev pub pendings_over : ViewAnew → List Pending → List ℕ → List ℕ
-pendings_over v = lay (shows_b_anew v) (λ e. slot_of e.object) (λ e. part_of_anew v.word (pending_seen e))
+abbrev pub pendings_over : View → List Pending → List ℕ → List ℕ
+pendings_over v = lay (shows_b v) (λ e. slot_of e.object) (λ e. part_of v.word (pending_seen e))
 
 -- ---- what the model looks up, as of a stamp or now: under the entries, and over them
 abbrev pub spanned : Option ℕ → ℕ → List Past → Seen → Seen
@@ -41,15 +41,15 @@ topped None x d = current_of x d
 topped (Some s) x d = look_of x s d
 
 -- a slot's word with its object's entry over w
-abbrev pub entry_over : ViewAnew → Slot → ℕ → ℕ
+abbrev pub entry_over : View → Slot → ℕ → ℕ
 entry_over v none w = w
-entry_over v (some e) w = pick (shows_by v.as_of e) (part_of_anew v.word (pending_seen e)) w
+entry_over v (some e) w = pick (shows_by v.as_of e) (part_of v.word (pending_seen e)) w
 
-part_pick : (word : Word) (b : Bool) (x d : Seen) → pick b (part_of_anew word x) (part_of_anew word d) ≡ part_of_anew word (pick b x d)
+part_pick : (word : Word) (b : Bool) (x d : Seen) → pick b (part_of word x) (part_of word d) ≡ part_of word (pick b x d)
 part_pick word true x d = refl
 part_pick word false x d = refl
 
-entry_topped : (v : ViewAnew) (t : Option ℕ) → v.as_of ≡ t → (x : Slot) (d : Seen) → entry_over v x (part_of_anew v.word d) ≡ part_of_anew v.word (topped t x d)
+entry_topped : (v : View) (t : Option ℕ) → v.as_of ≡ t → (x : Slot) (d : Seen) → entry_over v x (part_of v.word d) ≡ part_of v.word (topped t x d)
 entry_topped v None e none d = refl
 entry_topped v None e (some x) d = rw e
 entry_topped v (Some s) e none d = refl
@@ -64,10 +64,10 @@ alone : (o : ℕ) (es : List Pending) → elem_b o (map (λ e. e.object) es) ≡
 alone o [] h = refl
 alone o (e ∷ es) h = by_test (eqb e.object o) (λ q. clash (rw q at h)) (λ q. rw q (alone o es (rw q at h)))
 
-module _ (v : ViewAnew) (k : ℕ) (h : k < 16) where
+module _ (v : View) (k : ℕ) (h : k < 16) where
   pub past_shown : (t : Option ℕ) → v.as_of ≡ t → (d : Seen) (qs : List Past)
-      → word_or (covers_b_anew v) (λ q. slot_of q.object) (λ q. part_of_anew v.word (past_seen q)) k qs (part_of_anew v.word d)
-      ≡ part_of_anew v.word (spanned t (object_at v.page k) qs d)
+      → word_or (covers_b v) (λ q. slot_of q.object) (λ q. part_of v.word (past_seen q)) k qs (part_of v.word d)
+      ≡ part_of v.word (spanned t (object_at v.page k) qs d)
   past_shown None e d [] = refl
   past_shown (Some s) e d [] = refl
   past_shown None e d (q ∷ qs) =
@@ -79,7 +79,7 @@ module _ (v : ViewAnew) (k : ℕ) (h : k < 16) where
       (by_test (holds_b (object_at v.page k) s q) (λ z. rw z) (λ z. rw z ih))
 
   pub entry_shown : (w : ℕ) (es : List Pending) → twice_b (map (λ e. e.object) es) ≡ false
-      → word_or (shows_b_anew v) (λ e. slot_of e.object) (λ e. part_of_anew v.word (pending_seen e)) k es w ≡ entry_over v (lookup (object_at v.page k) es) w
+      → word_or (shows_b v) (λ e. slot_of e.object) (λ e. part_of v.word (pending_seen e)) k es w ≡ entry_over v (lookup (object_at v.page k) es) w
   entry_shown w [] t = refl
   entry_shown w (e ∷ es) t =
       let o = object_at v.page k in
@@ -91,9 +91,9 @@ module _ (v : ViewAnew) (k : ℕ) (h : k < 16) where
       (λ q. rw q ih))
 
   pub pending_shown : (t : Option ℕ) → v.as_of ≡ t → (d : Seen) (es : List Pending) → twice_b (map (λ e. e.object) es) ≡ false
-      → word_or (shows_b_anew v) (λ e. slot_of e.object) (λ e. part_of_anew v.word (pending_seen e)) k es (part_of_anew v.word d)
-      ≡ part_of_anew v.word (topped t (lookup (object_at v.page k) es) d)
-  pending_shown t e d es u = entry_shown (part_of_anew v.word d) es u ∙ entry_topped v t e (lookup (object_at v.page k) es) d
+      → word_or (shows_b v) (λ e. slot_of e.object) (λ e. part_of v.word (pending_seen e)) k es (part_of v.word d)
+      ≡ part_of v.word (topped t (lookup (object_at v.page k) es) d)
+  pending_shown t e d es u = entry_shown (part_of v.word d) es u ∙ entry_topped v t e (lookup (object_at v.page k) es) d
 
 -- ---- a row below n is the object's entry, and any other tells that it has none
 module _ (o : ℕ) (es : List Pending) (n : ℕ) (l : n ≤ length es) where
@@ -106,18 +106,18 @@ module _ (o : ℕ) (es : List Pending) (n : ℕ) (l : n ≤ length es) where
   found_none None e h = lookup_none o (take n es) e
 
 -- ---- a slot's word after the entries are laid, by the row that the index tells for the slot's object
-module _ (v : ViewAnew) (k : ℕ) (h : k < 16) (p : v.page < 32) {index : List ℕ} (es : List Pending) (n : ℕ) (x : Indexed index (take n es))
+module _ (v : View) (k : ℕ) (h : k < 16) (p : v.page < 32) {index : List ℕ} (es : List Pending) (n : ℕ) (x : Indexed index (take n es))
     (t : twice_b (map (λ e. e.object) (take n es)) ≡ false) (m : n ≤ 128) (l : n ≤ length es) (out : List ℕ) (g : length out ≡ 16) where
   word_at : get_or (pendings_over v (take n es) out) k 0 ≡ entry_over v (lookup (object_at v.page k) (take n es)) (get_or out k 0)
   word_at =
-      lay_at (shows_b_anew v) (λ e. slot_of e.object) (λ e. part_of_anew v.word (pending_seen e)) (take n es) out k (rw g h)
+      lay_at (shows_b v) (λ e. slot_of e.object) (λ e. part_of v.word (pending_seen e)) (take n es) out k (rw g h)
       ∙ entry_shown v k h (get_or out k 0) (take n es) t
 
   row_at : get_or index (object_at v.page k) 0 ≡ row_of (find_pending (object_at v.page k) (take n es))
   row_at = x.row_at (object_at v.page k) (omega arith)
 
   pub slot_shown : get_or index (object_at v.page k) 0 < n → {e : Pending} → e ≡ pending_at es (get_or index (object_at v.page k) 0)
-      → get_or (pendings_over v (take n es) out) k 0 ≡ pick (shows_by v.as_of e) (part_of_anew v.word (pending_seen e)) (get_or out k 0)
+      → get_or (pendings_over v (take n es) out) k 0 ≡ pick (shows_by v.as_of e) (part_of v.word (pending_seen e)) (get_or out k 0)
   slot_shown b q =
       let o = object_at v.page k in
       let f = found_entry o es n l (find_pending o (take n es)) refl m (rw row_at at b) in

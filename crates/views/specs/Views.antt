@@ -8,7 +8,7 @@ use Rattle.model.specs.Store.{Store, page_of, current, look}
 use Rattle.tables.specs.declared.Heads.{Heads}
 use Rattle.tables.specs.declared.Written.{Written}
 use Rattle.tables.specs.Rows.{pendings}
-use Rattle.views.specs.declared.ViewAnew.{ViewAnew}
+use Rattle.views.specs.declared.View.{View}
 use Rattle.views.specs.Rows.{covers_by, shows_by}
 use Rattle.views.specs.declared.Word.{Word}
 use Rattle.views.specs.declared.Word.TheVariants.{Value, Age}
@@ -19,28 +19,28 @@ lay f slot word [] out = out
 lay f slot word (x ∷ xs) out = pick (f x) (set (lay f slot word xs out) (slot x) (word x)) (lay f slot word xs out)
 
 -- the part of a value that a view asks for
-abbrev pub part_of_anew : Word → Seen → ℕ
-part_of_anew Age x = x.stamp
-part_of_anew Value x = x.value
+abbrev pub part_of : Word → Seen → ℕ
+part_of Age x = x.stamp
+part_of Value x = x.value
 
 -- an object's value as of a stamp, or its current one
-abbrev pub seen_by_anew : Store → ℕ → Option ℕ → Seen
-seen_by_anew st o None = current st o
-seen_by_anew st o (Some s) = look st o s
+abbrev pub seen_by : Store → ℕ → Option ℕ → Seen
+seen_by st o None = current st o
+seen_by st o (Some s) = look st o s
 
-abbrev pub viewed_anew : Store → ViewAnew → ℕ → ℕ
-viewed_anew st v o = part_of_anew v.word (seen_by_anew st o v.as_of)
+abbrev pub viewed : Store → View → ℕ → ℕ
+viewed st v o = part_of v.word (seen_by st o v.as_of)
 
 -- what a look at the tables asks: counts within them, a page of the store, one entry an object
-pub record LookableAnew (w : Written) (h : Heads) (page : ℕ) : Type 0 where
+pub record Lookable (w : Written) (h : Heads) (page : ℕ) : Type 0 where
   pub pending_count : h.pending ≤ 128
   pub past_count : h.past ≤ 256
   pub in_range : page < 32
   pub single : twice_b (map (λ e. e.object) (take h.pending (pendings w.pending))) ≡ false
 
 -- a row of the view's page that the view shows
-abbrev pub covers_b_anew : ViewAnew → Past → Bool
-covers_b_anew v q = both (eqb (page_of q.object) v.page) (covers_by v.as_of q)
+abbrev pub covers_b : View → Past → Bool
+covers_b v q = both (eqb (page_of q.object) v.page) (covers_by v.as_of q)
 
-abbrev pub shows_b_anew : ViewAnew → Pending → Bool
-shows_b_anew v e = both (eqb (page_of e.object) v.page) (shows_by v.as_of e)
+abbrev pub shows_b : View → Pending → Bool
+shows_b v e = both (eqb (page_of e.object) v.page) (shows_by v.as_of e)

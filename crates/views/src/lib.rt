@@ -9,7 +9,7 @@ ghost use Rattle.model.specs.Store.{page16, object_at, slot_of, pending_seen, pa
 ghost use Rattle.tables.specs.Rows.{pendings, pasts};
 ghost use Rattle.tables.specs.Lookups.{Indexed};
 ghost use Rattle.tables.specs.Contents.{contents};
-ghost use Rattle.views.specs.Views.{lay, part_of_anew, viewed_anew, covers_b_anew, shows_b_anew, LookableAnew};
+ghost use Rattle.views.specs.Views.{lay, part_of, viewed, covers_b, shows_b, Lookable};
 
 use model::Seen;
 use tables::{Heads, Index, PastTable, PendingTable, Written};
@@ -24,7 +24,7 @@ pub enum Word {
 impl Word {
     // The word of a value and its stamp.
     pub fn of(self, seen: Seen) -> u64
-        ensures { result ≡ part_of_anew self seen }
+        ensures { result ≡ part_of self seen }
     {
         match self {
             Word::Value => seen.value,
@@ -35,7 +35,7 @@ impl Word {
 
 // What is asked of a page: the values or their ages, as of a stamp, or current where there is none.
 #[derive(Clone, Copy)]
-pub struct ViewAnew {
+pub struct View {
     pub page: u64,
     pub as_of: Option<u64>,
     pub word: Word,
@@ -62,9 +62,9 @@ pub fn sixteen(words: &[u64], at: usize, out: &mut [u64])
 }
 
 // The page's sixteen words on disk.
-pub fn lay_disk_anew(w: &Written, page: u64, word: Word, out: &mut [u64])
+pub fn lay_disk(w: &Written, page: u64, word: Word, out: &mut [u64])
     requires { (page < 32) × (length out.old ≡ 16) }
-    ensures { out.new ≡ page16 (λ k. part_of_anew word (record { value = get_or w.now.disk (object_at page k) 0; stamp = get_or w.now.dated (object_at page k) 0 })) }
+    ensures { out.new ≡ page16 (λ k. part_of word (record { value = get_or w.now.disk (object_at page k) 0; stamp = get_or w.now.dated (object_at page k) 0 })) }
 {
     let at = 16 * (page as usize);
     match word {
@@ -74,9 +74,9 @@ pub fn lay_disk_anew(w: &Written, page: u64, word: Word, out: &mut [u64])
 }
 
 // From the last of the page's rows to the first, so that the first that covers stays.
-fn lay_pasts(t: &PastTable, n: usize, v: ViewAnew, out: &mut [u64])
+fn lay_pasts(t: &PastTable, n: usize, v: View, out: &mut [u64])
     requires { (n ≤ 256) × (length out.old ≡ 16) }
-    ensures { out.new ≡ lay (covers_b_anew v) (λ q. slot_of q.object) (λ q. part_of_anew v.word (past_seen q)) (take n (pasts t.now)) out.old }
+    ensures { out.new ≡ lay (covers_b v) (λ q. slot_of q.object) (λ q. part_of v.word (past_seen q)) (take n (pasts t.now)) out.old }
 {
     let mut i = tables::lookups::trimmed_past(t, n, v.page);
     // Kept: from row to row of the page; a `for` over all rows took two instructions more for each, a fifth of the whole look.
@@ -89,10 +89,10 @@ fn lay_pasts(t: &PastTable, n: usize, v: ViewAnew, out: &mut [u64])
 }
 
 // Slot by slot, each object's entry found by the index. No two entries are of one object, so their order doesn't matter.
-fn lay_pendings(t: &PendingTable, n: usize, index: &Index, v: ViewAnew, out: &mut [u64])
+fn lay_pendings(t: &PendingTable, n: usize, index: &Index, v: View, out: &mut [u64])
     requires indexed { Indexed index.now (take n (pendings t.now)) × (twice_b (map (λ e. e.object) (take n (pendings t.now))) ≡ false) }
     requires bounds { (n ≤ 128) × (v.page < 32) × (length out.old ≡ 16) }
-    ensures { out.new ≡ lay (shows_b_anew v) (λ e. slot_of e.object) (λ e. part_of_anew v.word (pending_seen e)) (take n (pendings t.now)) out.old }
+    ensures { out.new ≡ lay (shows_b v) (λ e. slot_of e.object) (λ e. part_of v.word (pending_seen e)) (take n (pendings t.now)) out.old }
 {
     let at = 16 * (v.page as usize);
     for k in 0..16 {
@@ -104,13 +104,13 @@ fn lay_pendings(t: &PendingTable, n: usize, index: &Index, v: ViewAnew, out: &mu
 }
 
 // The page as the view asks, where no copy serves.
-pub fn look_at_anew(w: &Written, h: Heads, index: &Index, view: ViewAnew, out: &mut [u64])
-    requires lookable { LookableAnew w.now h view.page }
+pub fn look_at(w: &Written, h: Heads, index: &Index, view: View, out: &mut [u64])
+    requires lookable { Lookable w.now h view.page }
     requires indexed { Indexed index.now (take h.pending (pendings w.now.pending)) }
     requires out_len { length out.old ≡ 16 }
-    ensures { (snapshots : List ℕ) (copies : List (List ℕ)) (copied : List ℕ) → out.new ≡ page16 (λ k. viewed_anew (contents w.now.disk w.now.dated w.now.pending w.now.past snapshots copies copied h) view (object_at view.page k)) }
+    ensures { (snapshots : List ℕ) (copies : List (List ℕ)) (copied : List ℕ) → out.new ≡ page16 (λ k. viewed (contents w.now.disk w.now.dated w.now.pending w.now.past snapshots copies copied h) view (object_at view.page k)) }
 {
-    lay_disk_anew(w, view.page, view.word, out);
+    lay_disk(w, view.page, view.word, out);
     if view.as_of.is_some() {
         lay_pasts(&w.past, h.past, view, out);
     }

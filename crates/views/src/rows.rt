@@ -5,9 +5,9 @@ ghost use Rattle.model.specs.Lists.{pick};
 ghost use Rattle.model.specs.Store.{past_seen, pending_seen};
 ghost use Rattle.tables.specs.Rows.{pendings, pasts, pending_of, past_of};
 ghost use Rattle.views.specs.Rows.{covers_by, shows_by, covers_early, covers_over, shows_early, shows_over};
-ghost use Rattle.views.specs.Views.{part_of_anew};
+ghost use Rattle.views.specs.Views.{part_of};
 
-use crate::{ViewAnew, Word};
+use crate::{View, Word};
 use model::{Past, Pending, Seen};
 use tables::{PastTable, PendingTable};
 
@@ -144,9 +144,9 @@ impl Row for Pending {
 }
 
 // A row that is shown puts its word at the slot.
-pub fn lay_row<R: Row>(r: R, slot: usize, v: ViewAnew, out: &mut [u64])
+pub fn lay_row<R: Row>(r: R, slot: usize, v: View, out: &mut [u64])
     requires { slot < length out.old }
-    ensures { out.new ≡ pick (R.shown_b v.as_of r) (set out.old slot (part_of_anew v.word (R.seen_of r))) out.old }
+    ensures { out.new ≡ pick (R.shown_b v.as_of r) (set out.old slot (part_of v.word (R.seen_of r))) out.old }
 {
     if r.is_shown(v.as_of) {
         out[slot] = v.word.of(r.seen());

@@ -13,5 +13,5 @@ returns-in-Some c =
 pub returns-in-None : goal.returns-in-None
 returns-in-None c =
     let st = c.args.store.now in
-    c.look_at_anew.ensures st.snapshots st.copies st.copied
+    c.look_at.ensures st.snapshots st.copies st.copied
     ∙ shown_looked st c.args.page c.args.s c.requires.copies_bound.0 (copies_length _ _ (search rules)) c.in-None.ensures

@@ -10,7 +10,7 @@ use Rattle.model.specs.Store.{slot_of, pending_seen}
 use Rattle.tables.specs.Rows.{pendings}
 use Rattle.tables.proofs.Rows.{pendings_length}
 use Rattle.views.specs.Rows.{shows_by}
-use Rattle.views.specs.Views.{part_of_anew, shows_b_anew}
+use Rattle.views.specs.Views.{part_of, shows_b}
 use Rattle.views.proofs.Pages.{replace_more, replace_end}
 use Rattle.views.proofs.Laying.{put_length, lay_length}
 use Rattle.views.proofs.Showing.{pendings_over, slot_shown, slot_bare}
@@ -24,7 +24,7 @@ laid c = let a = c.args in pendings_over a.v (take a.n (pendings a.t.now)) a.out
 same : (c : Start) → length (laid c) ≡ length c.args.out.now
 same c =
     let a = c.args in
-    lay_length (shows_b_anew a.v) (λ e. slot_of e.object) (λ e. part_of_anew a.v.word (pending_seen e)) (take a.n (pendings a.t.now)) a.out.now
+    lay_length (shows_b a.v) (λ e. slot_of e.object) (λ e. part_of a.v.word (pending_seen e)) (take a.n (pendings a.t.now)) a.out.now
 
 pub loop-k-preserved : goal.loop-k-preserved
 loop-k-preserved c =
@@ -40,8 +40,8 @@ loop-k-preserved c =
     (elim c.if-row-n.branch [
       | then-row-n w ↦ let e = w.pending_at.result in
           let q = w.out-is ∙ w.lay_row.ensures in (
-            put_length (shows_by a.v.as_of e) v.out v.k (part_of_anew a.v.word (pending_seen e)) q v.invariant.0,
-            replace_more (laid s) a.out.now v.k v.invariant.1 (same s) o (shows_by a.v.as_of e) (part_of_anew a.v.word (pending_seen e))
+            put_length (shows_by a.v.as_of e) v.out v.k (part_of a.v.word (pending_seen e)) q v.invariant.0,
+            replace_more (laid s) a.out.now v.k v.invariant.1 (same s) o (shows_by a.v.as_of e) (part_of a.v.word (pending_seen e))
                 (slot_shown a.v v.k b p.bounds.1 ps a.n p.indexed.0 p.indexed.1 p.bounds.0 n a.out.now p.bounds.2 (rw c.from-row.ensures at w.if-row-n.true) (rw c.from-row.ensures at w.pending_at.ensures)) q,
           )
       | else-row-n w ↦ (

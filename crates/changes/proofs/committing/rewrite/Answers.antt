@@ -12,7 +12,7 @@ use Rattle.tables.specs.declared.Store.{Store}
 use Rattle.tables.specs.Rows.{pendings}
 use Rattle.tables.specs.Lookups.{Indexed}
 use Rattle.tables.specs.Contents.{stored}
-use Rattle.commits.specs.Promises.{ReadyAnew}
+use Rattle.commits.specs.Promises.{Ready}
 use Rattle.commits.proofs.Judged.{accepted_room}
 use Rattle.changes.specs.Left.{Formed}
 use Rattle.std.proofs.lemmas.Result.{err_from_is_err_and}
@@ -23,49 +23,49 @@ use Rattle.changes.proofs.committing.rewrite.Goals as goal
 
 -- an undamaged store is ready for a commit in shape
 ready : {s : Store} {os vs j index : List ℕ} {used : ℕ} → damaged (stored s) ≡ false → Formed os vs j used → Indexed index (take s.heads.pending (pendings s.written.pending))
-    → ReadyAnew s os index
+    → Ready s os index
 ready {s} w f x =
     let u = sound s w in
     let l = formed_listed f in
     record { counted = u.counted; rising = u.rising; short = l.short; once = f.once; in_range = l.in_range; indexed = x }
 
-pub damaged_or_indexed_anew-requires : goal.damaged_or_indexed_anew-requires
-damaged_or_indexed_anew-requires c = blank_at 128 512
+pub damaged_or_indexed-requires : goal.damaged_or_indexed-requires
+damaged_or_indexed-requires c = blank_at 128 512
 
-pub returns-then-damaged_or_indexed_anew-clause-made : goal.returns-then-damaged_or_indexed_anew-clause-made
-returns-then-damaged_or_indexed_anew-clause-made c =
-    left_damaged _ _ _ _ _ (sym c.damaged_or_indexed_anew.ensures.0 ∙ c.if-damaged_or_indexed_anew.true)
+pub returns-then-damaged_or_indexed-clause-made : goal.returns-then-damaged_or_indexed-clause-made
+returns-then-damaged_or_indexed-clause-made c =
+    left_damaged _ _ _ _ _ (sym c.damaged_or_indexed.ensures.0 ∙ c.if-damaged_or_indexed.true)
 
 pub judge-verdict-requires : goal.judge-verdict-requires
 judge-verdict-requires c =
-    let d = c.damaged_or_indexed_anew.ensures in
-    ready (sym d.0 ∙ c.if-damaged_or_indexed_anew.false) c.in_ok-formed.ensures (d.1 c.if-damaged_or_indexed_anew.false)
+    let d = c.damaged_or_indexed.ensures in
+    ready (sym d.0 ∙ c.if-damaged_or_indexed.false) c.in_ok-formed.ensures (d.1 c.if-damaged_or_indexed.false)
 
-pub settled_anew-requires : goal.settled_anew-requires
-settled_anew-requires c = let l = formed_listed c.in_ok-formed.ensures in
+pub settled-requires : goal.settled-requires
+settled-requires c = let l = formed_listed c.in_ok-formed.ensures in
     (omega (arith, l.short), l.placed)
 
-pub returns-in_err-settled_anew-clause-made : goal.returns-in_err-settled_anew-clause-made
-returns-in_err-settled_anew-clause-made c =
+pub returns-in_err-settled-clause-made : goal.returns-in_err-settled-clause-made
+returns-in_err-settled-clause-made c =
     let a = c.args in
     let f = c.in_ok-formed.ensures in
-    let r = err_from_is_err_and c.from_residual-in_err-settled_anew.result c.from_residual-in_err-settled_anew.ensures.1 in
+    let r = err_from_is_err_and c.from_residual-in_err-settled.result c.from_residual-in_err-settled.ensures.1 in
     rw (r.1, r.2)
-    (made_refused (formed_passed f a.t (sym c.damaged_or_indexed_anew.ensures.0 ∙ c.if-damaged_or_indexed_anew.false))
+    (made_refused (formed_passed f a.t (sym c.damaged_or_indexed.ensures.0 ∙ c.if-damaged_or_indexed.false))
     (c.judge-verdict.ensures a.values.now (sym (formed_listed f).even))
-    (c.in_err-settled_anew.ensures (commit a.t (paired a.objects.now a.values.now)) (formed_length f a.t)))
+    (c.in_err-settled.ensures (commit a.t (paired a.objects.now a.values.now)) (formed_length f a.t)))
 
-pub apply_commit_anew-requires-clause-ready : goal.apply_commit_anew-requires-clause-ready
-apply_commit_anew-requires-clause-ready c =
-    let d = c.damaged_or_indexed_anew.ensures in
-    ready (sym d.0 ∙ c.if-damaged_or_indexed_anew.false) c.in_ok-formed.ensures (d.1 c.if-damaged_or_indexed_anew.false)
+pub apply_commit-requires-clause-ready : goal.apply_commit-requires-clause-ready
+apply_commit-requires-clause-ready c =
+    let d = c.damaged_or_indexed.ensures in
+    ready (sym d.0 ∙ c.if-damaged_or_indexed.false) c.in_ok-formed.ensures (d.1 c.if-damaged_or_indexed.false)
 
-pub apply_commit_anew-requires-clause-room : goal.apply_commit_anew-requires-clause-room
-apply_commit_anew-requires-clause-room c =
+pub apply_commit-requires-clause-room : goal.apply_commit-requires-clause-room
+apply_commit-requires-clause-room c =
     let a = c.args in
     let f = c.in_ok-formed.ensures in
     let even = sym (formed_listed f).even in
-    let e = c.in_ok-settled_anew.ensures (commit a.t (paired a.objects.now a.values.now)) (formed_length f a.t) in
+    let e = c.in_ok-settled.ensures (commit a.t (paired a.objects.now a.values.now)) (formed_length f a.t) in
     (even, accepted_room (stored a.store.now) a.t (paired a.objects.now a.values.now) (sym (c.judge-verdict.ensures a.values.now even) ∙ e.0))
 
 pub append_commit-requires : goal.append_commit-requires
@@ -73,14 +73,14 @@ append_commit-requires c =
     let a = c.args in
     let f = c.in_ok-formed.ensures in
     let l = formed_listed f in
-    (l.even, l.short, (c.in_ok-settled_anew.ensures (commit a.t (paired a.objects.now a.values.now)) (formed_length f a.t)).1)
+    (l.even, l.short, (c.in_ok-settled.ensures (commit a.t (paired a.objects.now a.values.now)) (formed_length f a.t)).1)
 
 pub returns-clause-made : goal.returns-clause-made
 returns-clause-made c =
     let a = c.args in
     let f = c.in_ok-formed.ensures in
-    made_done (formed_passed f a.t (sym c.damaged_or_indexed_anew.ensures.0 ∙ c.if-damaged_or_indexed_anew.false))
+    made_done (formed_passed f a.t (sym c.damaged_or_indexed.ensures.0 ∙ c.if-damaged_or_indexed.false))
     (c.judge-verdict.ensures a.values.now (sym (formed_listed f).even))
-    (c.in_ok-settled_anew.ensures (commit a.t (paired a.objects.now a.values.now)) (formed_length f a.t))
-    c.apply_commit_anew.ensures.applied.contains
+    (c.in_ok-settled.ensures (commit a.t (paired a.objects.now a.values.now)) (formed_length f a.t))
+    c.apply_commit.ensures.applied.contains
     c.append_commit.ensures

@@ -4,15 +4,15 @@ use Rattle.changes.proofs.Shapes.{shape_second, shape_third}
 use Rattle.changes.proofs.Outcomes.{left_damaged, left_shape}
 use Rattle.changes.proofs.gossiping.tested.Goals as goal
 
-pub returns-then-damaged_anew-clause-made : goal.returns-then-damaged_anew-clause-made
-returns-then-damaged_anew-clause-made c = left_damaged _ _ _ _ _ (sym c.damaged_anew.ensures ∙ c.if-damaged_anew.true)
+pub returns-then-damaged-clause-made : goal.returns-then-damaged-clause-made
+returns-then-damaged-clause-made c = left_damaged _ _ _ _ _ (sym c.damaged.ensures ∙ c.if-damaged.true)
 
 pub returns-then-not-journal_shaped-clause-made : goal.returns-then-not-journal_shaped-clause-made
 returns-then-not-journal_shaped-clause-made c =
-    left_shape _ _ _ _ _ (sym c.damaged_anew.ensures ∙ c.if-damaged_anew.false)
+    left_shape _ _ _ _ _ (sym c.damaged.ensures ∙ c.if-damaged.false)
     (shape_second _ refl (sym c.journal_shaped.ensures ∙ c.if-not-journal_shaped.true))
 
 pub returns-then-not-stamps_shaped-clause-made : goal.returns-then-not-stamps_shaped-clause-made
 returns-then-not-stamps_shaped-clause-made c =
-    left_shape _ _ _ _ _ (sym c.damaged_anew.ensures ∙ c.if-damaged_anew.false)
+    left_shape _ _ _ _ _ (sym c.damaged.ensures ∙ c.if-damaged.false)
     (shape_third refl (sym c.journal_shaped.ensures ∙ c.if-not-journal_shaped.false) (sym c.stamps_shaped.ensures ∙ c.if-not-stamps_shaped.true))

@@ -35,7 +35,7 @@ listed c =
     let s = a.store.now in
     let l = s.snapshots in
     let n = s.heads.snapshots in
-    let w = c.newest_up_to_anew-newest.ensures in
+    let w = c.newest_up_to-newest.ensures in
     let f = c.first_from-low.ensures in
     dues_to_last s.written s.heads a.page (sized s a.page c.requires.ready c.whole.ensures) (looks s a.page c.requires.ready) l n (n - 1) (some c) (inside c) c.requires.ready.rising a.marked w.still w.by_index f c.first_from-high.ensures (found c)
     (c.list_between.ensures.by_index a.marked (λ j q r. omega (arith, first_behind (n - 1) l (omega (arith, inside c)) f j q (omega (arith, first_inside (n - 1) l (omega (arith, inside c)) c.first_from-high.ensures)))))
@@ -50,7 +50,7 @@ told c =
     let l = a.store.now.snapshots in
     let n = a.store.now.heads.snapshots in
     c.some_beyond.ensures
-    ∙ due_seen_lem (seen c) a.page a.marked (get_or l (n - 1) 0) (drop (n - 1 + 1) (take n l)) c.if-last-marked.false (next_none a.page l n (n - 1 + 1) (omega arith)) (c.look_at_anew.ensures [] [] [])
+    ∙ due_seen_lem (seen c) a.page a.marked (get_or l (n - 1) 0) (drop (n - 1 + 1) (take n l)) c.if-last-marked.false (next_none a.page l n (n - 1 + 1) (omega arith)) (c.look_at.ensures [] [] [])
 
 pub returns-then-last-marked : goal.returns-then-last-marked
 returns-then-last-marked c = let a = c.args in

@@ -8,8 +8,8 @@ use Rattle.flushes.proofs.Listing.{pages_tell, listed_high}
 use Rattle.flushes.proofs.Holdings.{looks}
 use Rattle.flushes.proofs.dues.list_within.Goals as goal
 
-pub look_at_all_anew-requires : goal.look_at_all_anew-requires
-look_at_all_anew-requires c = let a = c.args in
+pub look_at_all-requires : goal.look_at_all-requires
+look_at_all-requires c = let a = c.args in
     let s = a.store.now in
     let l = s.snapshots in
     let k = c.requires.ready in
@@ -28,4 +28,4 @@ returns-clause-by_index c = let a = c.args in
     λ m f.
     listed_high (seen_in s.written s.heads) a.page m (take n l) a.low a.high c.requires.low_lt_high.0 c.find_dues.new.due
     (c.find_dues.ensures.listed_to (seen_in s.written s.heads) a.page m n (omega arith) (omega arith)
-    (pages_tell s.written s.heads a.page m l n a.low a.high c.requires.high_bound.0 (omega arith) f c.look_at_all_anew.ensures))
+    (pages_tell s.written s.heads a.page m l n a.low a.high c.requires.high_bound.0 (omega arith) f c.look_at_all.ensures))

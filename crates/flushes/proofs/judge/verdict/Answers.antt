@@ -8,7 +8,7 @@ use Rattle.model.specs.Changes.{of_page}
 use Rattle.model.specs.Lists.{kept}
 use Rattle.tables.specs.Rows.{pendings}
 use Rattle.flushes.specs.Parts.{leaves_under}
-use Rattle.shares.proofs.Numbers.{numbered_count_anew}
+use Rattle.shares.proofs.Numbers.{numbered_count}
 use Rattle.flushes.proofs.Sharing.{leaving_few}
 use Rattle.flushes.proofs.Verdicts.{say_accepted}
 use Rattle.flushes.proofs.judge.verdict.Goals as goal
@@ -21,7 +21,7 @@ returns-then-staying-entries-le256 c =
     let w = s.written in
     let es = take s.heads.pending (pendings w.pending) in
     let own = length (kept (of_page a.rule.page) es) in
-    let e = numbered_count_anew c.requires.numbered in
+    let e = numbered_count c.requires.numbered in
     let some : own + length a.due.now ≡ 0 → ⊥ = λ z.
     elim c.else-is_empty.branch [
       | else-is_empty-via-then-is_empty+else-is_empty-2 w ↦ eqb-false (length a.due.now) 0 (sym w.is_empty-then-is_empty.ensures ∙ w.if-is_empty-2.false) (omega arith)

@@ -11,18 +11,18 @@ use Rattle.restart.proofs.Holding.{sound}
 use Rattle.restart.proofs.Turning.{was_accepted}
 use Rattle.restart.proofs.gossip.carry.Goals as goal
 
-pub judge_gossip_anew-verdict-requires-clause-rising : goal.judge_gossip_anew-verdict-requires-clause-rising
-judge_gossip_anew-verdict-requires-clause-rising c = (sound c.args.store.now c.requires.held).rising
+pub judge_gossip-verdict-requires-clause-rising : goal.judge_gossip-verdict-requires-clause-rising
+judge_gossip-verdict-requires-clause-rising c = (sound c.args.store.now c.requires.held).rising
 
-pub apply_gossip_anew-requires : goal.apply_gossip_anew-requires
-apply_gossip_anew-requires c =
+pub apply_gossip-requires : goal.apply_gossip-requires
+apply_gossip-requires c =
     let a = c.args in
     let s = a.store.now in
     let u = sound s c.requires.held in
     let r = c.requires.stamps_len_bound.1 in
     let n = up_to_length 0 s.heads.snapshots s.snapshots in
     let m = accepted_room (stored s) a.prev a.curr a.stamps.now
-    (sym c.judge_gossip_anew-verdict.ensures ∙ was_accepted c.judge_gossip_anew-verdict.result (sym c.accepts.ensures ∙ c.if-not-accepts.false)) in
+    (sym c.judge_gossip-verdict.ensures ∙ was_accepted c.judge_gossip-verdict.result (sym c.accepts.ensures ∙ c.if-not-accepts.false)) in
     record {
       counted = u.counted;
       pages_in = u.pages_in;

@@ -11,7 +11,7 @@ pub loop-j-preserved : goal.loop-j-preserved
 loop-j-preserved c =
     let a = c.args in
     let v = c.loop-j in
-    let e = c.lay_disk_anew.ensures in
+    let e = c.lay_disk.ensures in
     let k = a.at + 16 * v.j + 16 - (a.at + 16 * v.j) in
     let z : k ≡ 16 = omega arith in
     let m : a.at + 16 * v.j + 16 ≤ length v.words = omega arith in (
