@@ -1,5 +1,6 @@
 // How a command is started: by itself, by `--demo`, by a file's name, or by a word for what is to be done with a file and its name;
 // and, where the script starts it, by `--under PARENT` before these.
+use crate::words::Status;
 use crate::{under, words};
 use files::trouble;
 use std::io::Error;
@@ -40,41 +41,41 @@ pub fn start<C: Command>(rt: &HostRuntime) {
 }
 
 // A word that can't be had is no name.
-fn unnamed<C: Command>(rt: &HostRuntime, error: &Error) -> u64 {
+fn unnamed<C: Command>(rt: &HostRuntime, error: &Error) -> Status {
     trouble::fail(rt, C::name_of_file(), error);
-    2
+    Status::Misused
 }
 
 // Two words: what is to be done, and the file's name.
-fn asked_by_two<C: Command>(rt: &HostRuntime, word: &[u8], at: usize) -> u64 {
+fn asked_by_two<C: Command>(rt: &HostRuntime, word: &[u8], at: usize) -> Status {
     if !C::knows(word) {
         return words::misused(rt);
     }
     match words::word(rt, at) {
         Ok(path) if words::is_name(rt, path.bytes()) => {
-            words::status_of(C::is_done_by(rt, word, path.bytes()))
+            Status::of(C::is_done_by(rt, word, path.bytes()))
         }
-        Ok(_) => 2,
+        Ok(_) => Status::Misused,
         Err(error) => unnamed::<C>(rt, &error),
     }
 }
 
 // One word: `--demo`, or the file's name.
-fn asked_by_one<C: Command>(rt: &HostRuntime, word: &[u8]) -> u64 {
+fn asked_by_one<C: Command>(rt: &HostRuntime, word: &[u8]) -> Status {
     if word == DEMO {
-        return words::status_of(C::is_shown(rt));
+        return Status::of(C::is_shown(rt));
     }
     if !words::is_name(rt, word) {
-        return 2;
+        return Status::Misused;
     }
-    words::status_of(C::is_done_in_file(rt, word))
+    Status::of(C::is_done_in_file(rt, word))
 }
 
 // What the words from this one on ask for.
-fn asked_from<C: Command>(rt: &HostRuntime, first: usize) -> u64 {
+fn asked_from<C: Command>(rt: &HostRuntime, first: usize) -> Status {
     let more = words::count_from(rt, first);
     if more == 0 {
-        return words::status_of(C::is_done_in_memory(rt));
+        return Status::of(C::is_done_in_memory(rt));
     }
     match words::word(rt, first) {
         Ok(word) if more == 1 => asked_by_one::<C>(rt, word.bytes()),
