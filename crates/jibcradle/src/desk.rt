@@ -118,9 +118,10 @@ impl Keeper<'_> {
     ) -> Result<(), Stop> {
         let n = entries(count, &listed.firsts);
         let m = entries(count, &listed.seconds);
+        let whole = &mut self.journal[..];
         let done = committing::commit(
             &mut self.store,
-            &mut self.journal[..room::MOST],
+            &mut whole[..room::MOST],
             self.place,
             stamp,
             &listed.firsts[..n],
@@ -136,9 +137,10 @@ impl Keeper<'_> {
         curr: u64,
         stamps: &[u64],
     ) -> Result<(), Stop> {
+        let whole = &mut self.journal[..];
         let done = gossiping::gossip(
             &mut self.store,
-            &mut self.journal[..room::MOST],
+            &mut whole[..room::MOST],
             self.place,
             prev,
             curr,
@@ -148,20 +150,17 @@ impl Keeper<'_> {
     }
 
     fn flush(&mut self, rt: &HostRuntime, page: u64) -> Result<(), Stop> {
-        let done = flushing::flush(
-            &mut self.store,
-            &mut self.journal[..room::MOST],
-            self.place,
-            page,
-        );
+        let whole = &mut self.journal[..];
+        let done = flushing::flush(&mut self.store, &mut whole[..room::MOST], self.place, page);
         self.settle(rt, done)
     }
 
     // A message that a coordinator wrote is answered as a change, or by what is to be asked for.
     fn hear(&mut self, rt: &HostRuntime, message: &[u8]) -> Result<(), Stop> {
+        let whole = &mut self.journal[..];
         let done = hearing::hear(
             &mut self.store,
-            &mut self.journal[..room::MOST],
+            &mut whole[..room::MOST],
             self.place,
             message,
         );
