@@ -41,6 +41,37 @@ fn curr_of(message: &[u8]) -> u64 {
     fields::get_be(message, CURR, 8)
 }
 
+// The calls that change the store, with as much of the journal's room as a journal may have.
+fn committed(
+    store: &mut Store,
+    journal: &mut [u8; ROOM],
+    used: Place,
+    t: u64,
+    objects: &[u64],
+    values: &[u64],
+) -> Changed {
+    committing::commit(store, &mut journal[..room::MOST], used, t, objects, values)
+}
+
+fn gossiped(
+    store: &mut Store,
+    journal: &mut [u8; ROOM],
+    used: Place,
+    prev: u64,
+    curr: u64,
+    stamps: &[u64],
+) -> Changed {
+    gossiping::gossip(store, &mut journal[..room::MOST], used, prev, curr, stamps)
+}
+
+fn flushed(store: &mut Store, journal: &mut [u8; ROOM], used: Place, page: u64) -> Changed {
+    flushing::flush(store, &mut journal[..room::MOST], used, page)
+}
+
+fn heard(store: &mut Store, journal: &mut [u8; ROOM], used: Place, message: &[u8]) -> Changed {
+    hearing::hear(store, &mut journal[..room::MOST], used, message)
+}
+
 impl Keeper<'_> {
     // A change that was made is answered once its record is in the file.
     fn settle(&mut self, rt: &HostRuntime, done: Changed) -> Result<(), Stop> {
@@ -118,10 +149,9 @@ impl Keeper<'_> {
     ) -> Result<(), Stop> {
         let n = entries(count, &listed.firsts);
         let m = entries(count, &listed.seconds);
-        let whole = &mut self.journal[..];
-        let done = committing::commit(
+        let done = committed(
             &mut self.store,
-            &mut whole[..room::MOST],
+            &mut self.journal,
             self.place,
             stamp,
             &listed.firsts[..n],
@@ -137,10 +167,9 @@ impl Keeper<'_> {
         curr: u64,
         stamps: &[u64],
     ) -> Result<(), Stop> {
-        let whole = &mut self.journal[..];
-        let done = gossiping::gossip(
+        let done = gossiped(
             &mut self.store,
-            &mut whole[..room::MOST],
+            &mut self.journal,
             self.place,
             prev,
             curr,
@@ -150,20 +179,13 @@ impl Keeper<'_> {
     }
 
     fn flush(&mut self, rt: &HostRuntime, page: u64) -> Result<(), Stop> {
-        let whole = &mut self.journal[..];
-        let done = flushing::flush(&mut self.store, &mut whole[..room::MOST], self.place, page);
+        let done = flushed(&mut self.store, &mut self.journal, self.place, page);
         self.settle(rt, done)
     }
 
     // A message that a coordinator wrote is answered as a change, or by what is to be asked for.
     fn hear(&mut self, rt: &HostRuntime, message: &[u8]) -> Result<(), Stop> {
-        let whole = &mut self.journal[..];
-        let done = hearing::hear(
-            &mut self.store,
-            &mut whole[..room::MOST],
-            self.place,
-            message,
-        );
+        let done = heard(&mut self.store, &mut self.journal, self.place, message);
         if let Answer::Gap(_) = done.answer {
             return given(self.is_asked(rt, Some(done.answer), curr_of(message)));
         }
