@@ -38,7 +38,7 @@ impl Line {
     }
 
     // A space and the digits behind it, where there are bytes and at most 512.
-    pub fn hex(&mut self, bytes: &[u8])
+    pub(crate) fn hex(&mut self, bytes: &[u8])
         requires { length self.old + 1025 ≤ room }
         ensures text { self.new ≡ self.old ++ bytes_text bytes.now }
         ensures short { length self.new ≤ length self.old + 1025 }

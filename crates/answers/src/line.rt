@@ -5,7 +5,7 @@ ghost use Rattle.answers.specs.Says.{room, text as ascii, digit as Says·digit, 
 use std::marker::Model;
 
 // The most bytes that a line has.
-pub const ROOM: usize = 2048;
+const ROOM: usize = 2048;
 
 #[derive(Drop)]
 pub struct Line {
@@ -39,7 +39,7 @@ impl Line {
     }
 
     // The bytes of a text.
-    pub fn text(&mut self, text: &[u8])
+    pub(crate) fn text(&mut self, text: &[u8])
         requires { length self.old + length text.now ≤ room }
         ensures { self.new ≡ self.old ++ text.now }
     {
@@ -56,7 +56,7 @@ impl Line {
     }
 
     // The digits before the last are those of a tenth. A word has at most 20.
-    pub fn number(&mut self, n: u64)
+    pub(crate) fn number(&mut self, n: u64)
         requires { length self.old + 20 ≤ room }
         ensures text { self.new ≡ self.old ++ decimal n }
         ensures short { length self.new ≤ length self.old + 20 }
@@ -70,7 +70,7 @@ impl Line {
     }
 
     // A space and the number behind it.
-    pub fn spaced(&mut self, n: u64)
+    pub(crate) fn spaced(&mut self, n: u64)
         requires { length self.old + 21 ≤ room }
         ensures text { self.new ≡ self.old ++ (ascii " " ++ decimal n) }
         ensures short { length self.new ≤ length self.old + 21 }
@@ -80,7 +80,7 @@ impl Line {
     }
 
     // The numbers, a space in front of each.
-    pub fn words(&mut self, numbers: &[u64])
+    pub(crate) fn words(&mut self, numbers: &[u64])
         requires { length self.old + 21 * length numbers.now ≤ room }
         ensures text { self.new ≡ self.old ++ spaced numbers.now }
         ensures short { length self.new ≤ length self.old + 21 * length numbers.now }

@@ -78,7 +78,7 @@ impl Line {
     }
 
     // The code, the number, the name.
-    pub fn answered(&mut self, answer: Answer)
+    pub(crate) fn answered(&mut self, answer: Answer)
         requires { length self.old + 57 ≤ room }
         ensures text { self.new ≡ self.old ++ answer_text answer }
         ensures short { length self.new ≤ length self.old + 57 }
@@ -90,7 +90,7 @@ impl Line {
     }
 
     // A page's words, where the page was read and there are sixteen of them.
-    pub fn page(&mut self, answer: Answer, words: &[u64])
+    pub(crate) fn page(&mut self, answer: Answer, words: &[u64])
         requires { length self.old + 336 ≤ room }
         ensures text { self.new ≡ self.old ++ page_text answer words.now }
         ensures short { length self.new ≤ length self.old + 336 }
@@ -101,7 +101,7 @@ impl Line {
     }
 
     // The horizon, the last stamp and the stamps, where the answer is Done and there are at most 64 stamps.
-    pub fn known(&mut self, answer: Answer, horizon: u64, last: u64, stamps: &[u64])
+    pub(crate) fn known(&mut self, answer: Answer, horizon: u64, last: u64, stamps: &[u64])
         requires { length self.old + 1386 ≤ room }
         ensures text { self.new ≡ self.old ++ known_text answer horizon last stamps.now }
         ensures short { length self.new ≤ length self.old + 1386 }
@@ -114,7 +114,7 @@ impl Line {
     }
 
     // The figures, where the answer is Done.
-    pub fn standing(&mut self, answer: Answer, f: Figures)
+    pub(crate) fn standing(&mut self, answer: Answer, f: Figures)
         requires { length self.old + 106 ≤ room }
         ensures text { self.new ≡ self.old ++ pick (is_done answer) (figures_text f) [] }
         ensures short { length self.new ≤ length self.old + 106 }
@@ -126,7 +126,7 @@ impl Line {
 
     // What is wrong with a line that is no call.
     // Kept: a number and no enum, since `fault_line` has a line for every number, and `not a call` for one that no fault has.
-    pub fn fault(&mut self, fault: u64)
+    pub(crate) fn fault(&mut self, fault: u64)
         requires { length self.old + 27 ≤ room }
         ensures text { self.new ≡ self.old ++ fault_text fault }
         ensures short { length self.new ≤ length self.old + 27 }
@@ -135,7 +135,7 @@ impl Line {
     }
 
     // Where it is wrong.
-    pub fn position(&mut self, line: u64, column: u64)
+    pub(crate) fn position(&mut self, line: u64, column: u64)
         requires { length self.old + 57 ≤ room }
         ensures text { self.new ≡ self.old ++ position_text line column }
         ensures short { length self.new ≤ length self.old + 57 }
@@ -147,7 +147,7 @@ impl Line {
     }
 
     // What to do about it, where there is no such call.
-    pub fn hint(&mut self, fault: u64)
+    pub(crate) fn hint(&mut self, fault: u64)
         requires { length self.old + 17 ≤ room }
         ensures text { self.new ≡ self.old ++ hint_text fault }
         ensures short { length self.new ≤ length self.old + 17 }

@@ -1,8 +1,7 @@
 // One line served: the order that it is, carried out and answered.
-ghost use Rattle.io.specs.Counts.{IsPrefixLen};
-
 use crate::help;
 use coordinator::State;
+use files::text::Text;
 use files::{paths, whole};
 use lines::orders::Order;
 use model::Answer;
@@ -22,41 +21,26 @@ pub struct Coordinator<'a> {
     pub length: usize,
 }
 
-// The state's bytes, at the front of out: how many.
-fn bytes_of(state: &State, out: &mut [u8]) -> usize
-    ensures { IsPrefixLen result out.new }
-{
-    let answer = state.keep(out);
-    say::written(answer, out)
+// The state's bytes, as its file has them.
+fn bytes_of(state: &State) -> Text<STATE_ROOM> {
+    let mut out = [0u8; STATE_ROOM];
+    let n = say::written(state.keep(&mut out), &out);
+    let mut bytes = Text::new();
+    bytes.add(&out[..n]);
+    bytes
 }
 
-// A grant is answered by its stamp, the others by a message too.
-fn is_said(rt: &HostRuntime, order: Order, answer: Answer, message: &[u8]) -> bool {
-    if let Order::Grant(_, _) = order {
-        return say::answer(rt, answer);
-    }
+// The answer, and behind it the message that it brings.
+fn is_said(rt: &HostRuntime, answer: Answer, message: &[u8]) -> bool {
     let n = say::written(answer, message);
     say::bytes(rt, answer, &message[..n])
 }
 
 impl Coordinator<'_> {
-    // Grant, message and serve, with room for a message. No other order comes here.
-    fn answer_to(&mut self, order: Order, line: &[u8], message: &mut [u8]) -> Answer {
-        match order {
-            Order::Grant(tick, node) => self.state.grant(tick, node),
-            Order::Message(prev, clock) => self.state.message(prev, clock, message),
-            Order::Serve(from, to) => {
-                let mut request = [0u8; lines::hex::ROOM];
-                let count = hex::bytes_in(line, from, to, &mut request);
-                let n = paths::within(count, &request);
-                self.state.serve(&request[..n], message)
-            }
-            _ => Answer::Nothing(0),
-        }
-    }
-
-    // A state that a call has changed goes to the file, for good. A file of no bytes is that of a fresh state.
-    fn save(&mut self, rt: &HostRuntime, old: &[u8], new: &[u8]) -> Result<(), Stop> {
+    // A state that a call has changed goes to the file, for good, before the call is answered. A file of no bytes is that of a fresh state.
+    fn save(&mut self, rt: &HostRuntime, old: &[u8]) -> Result<(), Stop> {
+        let kept = bytes_of(&self.state);
+        let new = kept.bytes();
         if self.path.is_empty() || old == new {
             return Ok(());
         }
@@ -66,16 +50,29 @@ impl Coordinator<'_> {
         Ok(())
     }
 
-    // A call that may change the state: what it changes is kept before it is answered.
-    fn settle(&mut self, rt: &HostRuntime, order: Order, line: &[u8]) -> Result<(), Stop> {
-        let mut old = [0u8; STATE_ROOM];
-        let n = bytes_of(&self.state, &mut old);
+    // A grant is answered by its stamp.
+    fn grant(&mut self, rt: &HostRuntime, tick: u64, node: u64) -> Result<(), Stop> {
+        let old = bytes_of(&self.state);
+        let answer = self.state.grant(tick, node);
+        self.save(rt, old.bytes())?;
+        given(say::answer(rt, answer))
+    }
+
+    fn message(&mut self, rt: &HostRuntime, prev: u64, clock: u64) -> Result<(), Stop> {
+        let old = bytes_of(&self.state);
         let mut message = [0u8; MESSAGE_ROOM];
-        let answer = self.answer_to(order, line, &mut message);
-        let mut new = [0u8; STATE_ROOM];
-        let m = bytes_of(&self.state, &mut new);
-        self.save(rt, &old[..n], &new[..m])?;
-        given(is_said(rt, order, answer, &message))
+        let answer = self.state.message(prev, clock, &mut message);
+        self.save(rt, old.bytes())?;
+        given(is_said(rt, answer, &message))
+    }
+
+    // A repository's request is answered by the message that it asks for.
+    fn answer_request(&mut self, rt: &HostRuntime, request: &[u8]) -> Result<(), Stop> {
+        let old = bytes_of(&self.state);
+        let mut message = [0u8; MESSAGE_ROOM];
+        let answer = self.state.serve(request, &mut message);
+        self.save(rt, old.bytes())?;
+        given(is_said(rt, answer, &message))
     }
 
     // How many stamps are granted, the largest curr sent, and the stamps.
@@ -94,7 +91,14 @@ impl Desk for Coordinator<'_> {
             Ok(Order::Help) => given(help::print(rt)),
             Ok(Order::Quit) => Err(Stop::Done),
             Ok(Order::Granted) => given(self.is_shown(rt)),
-            Ok(order) => self.settle(rt, order, line),
+            Ok(Order::Grant(tick, node)) => self.grant(rt, tick, node),
+            Ok(Order::Message(prev, clock)) => self.message(rt, prev, clock),
+            Ok(Order::Serve(from, to)) => {
+                let mut request = [0u8; lines::hex::ROOM];
+                let count = hex::bytes_in(line, from, to, &mut request);
+                let n = paths::within(count, &request);
+                self.answer_request(rt, &request[..n])
+            }
         }
     }
 }

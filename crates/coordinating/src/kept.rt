@@ -1,8 +1,7 @@
 // A coordinator from its start to the end of the input.
-use crate::demo;
 use crate::desk::Coordinator;
 use coordinator::State;
-use files::{fit, lock, paths, whole};
+use files::{paths, whole};
 use terminal::input::Source;
 use terminal::{say, serve};
 
@@ -44,33 +43,10 @@ fn begun<'a>(rt: &HostRuntime, path: &'a [u8]) -> Option<Coordinator<'a>> {
     Some(coordinator)
 }
 
-// The input is standard input, or the demonstration's lines.
-fn is_served(rt: &HostRuntime, path: &[u8], source: Source, laid: &[u8]) -> bool {
+// The input is standard input, or the demonstration's lines. False where something failed, after a word on standard error.
+pub fn is_served(rt: &HostRuntime, path: &[u8], source: Source, laid: &[u8]) -> bool {
     match begun(rt, path) {
         Some(mut coordinator) => serve::is_served(rt, &mut coordinator, source, laid),
         None => false,
     }
-}
-
-pub fn in_memory(rt: &HostRuntime) -> bool {
-    is_served(rt, b"", Source::Typed, b"")
-}
-
-pub fn shown(rt: &HostRuntime) -> bool {
-    is_served(rt, b"", Source::Laid, demo::LINES)
-}
-
-// Nothing is made before the name is known to be fit, and nothing read before the lock is ours. False where something failed, after a
-// word on standard error.
-pub fn in_file(rt: &HostRuntime, path: &[u8]) -> bool {
-    let is_ours = say::are_open(rt)
-        && fit::is_fit(rt, path, b"a coordinator's file")
-        && whole::is_single(rt, path)
-        && lock::is_taken(rt, path, b"the file");
-    if !is_ours {
-        return false;
-    }
-    let served = is_served(rt, path, Source::Typed, b"");
-    lock::release(rt, path);
-    served
 }

@@ -7,10 +7,9 @@ mod desk;
 mod help;
 mod kept;
 
+use terminal::input::Source;
 use terminal::start;
-use terminal::start::Command;
-
-const UNLOCK: &[u8] = b"--unlock";
+use terminal::start::{Command, UNLOCK};
 
 struct Coordinating;
 
@@ -19,16 +18,24 @@ impl Command for Coordinating {
         b"the name of the file"
     }
 
-    fn is_done_in_memory(rt: &HostRuntime) -> bool {
-        kept::in_memory(rt)
+    fn any_file() -> &'static [u8] {
+        b"a coordinator's file"
     }
 
-    fn is_shown(rt: &HostRuntime) -> bool {
-        kept::shown(rt)
+    fn this_file() -> &'static [u8] {
+        b"the file"
     }
 
-    fn is_done_in_file(rt: &HostRuntime, path: &[u8]) -> bool {
-        kept::in_file(rt, path)
+    fn lines() -> &'static [u8] {
+        demo::LINES
+    }
+
+    fn can_keep(rt: &HostRuntime, path: &[u8]) -> bool {
+        files::whole::is_single(rt, path)
+    }
+
+    fn is_served(rt: &HostRuntime, path: &[u8], source: Source, laid: &[u8]) -> bool {
+        kept::is_served(rt, path, source, laid)
     }
 
     fn knows(word: &[u8]) -> bool {

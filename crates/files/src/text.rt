@@ -1,6 +1,7 @@
 // Bytes put together in a room of fixed size, as the names of files are: what doesn't fit is left out. A clause sees the bytes that
 // are in it.
-ghost use Rattle.std.specs.Prelude.{◌≡◌, List, ℕ, [], ◌++◌, ◌-◌, ◌≤◌, length, take};
+ghost use Rattle.std.specs.Prelude.{◌≡◌, ◌↔◌, IsTrue, List, ℕ, [], ◌++◌, ◌-◌, ◌≤◌, length, take};
+ghost use Rattle.io.specs.Digits.{last_digits, IsDigitCount};
 
 use std::fs::File;
 use std::io::Read;
@@ -40,7 +41,9 @@ impl<const N: usize> Text<N> {
         &whole[..self.used]
     }
 
-    pub fn is_empty(&self) -> bool {
+    pub fn is_empty(&self) -> bool
+        ensures { IsTrue result ↔ (length self.now ≡ 0) }
+    {
         self.used == 0
     }
 
@@ -56,8 +59,10 @@ impl<const N: usize> Text<N> {
         self.used = end;
     }
 
-    // The number's digits behind them.
-    pub fn add_number(&mut self, n: u64) {
+    // The number's decimal digits behind them.
+    pub fn add_number(&mut self, n: u64)
+        ensures { (k : ℕ) × IsDigitCount 10 1 n k × (self.new ≡ self.old ++ take (N - length self.old) (last_digits 10 k n)) }
+    {
         let mut digits = [0u8; 20];
         let k = io::decimal(n, &mut digits);
         self.add(&digits[..k]);
@@ -74,7 +79,9 @@ impl<const N: usize> Text<N> {
 }
 
 // A path with more behind it.
-pub fn joined(path: &[u8], suffix: &[u8]) -> Name {
+pub fn joined(path: &[u8], suffix: &[u8]) -> Name
+    ensures { result ≡ take 4096 (path.now ++ suffix.now) }
+{
     let mut name = Text::new();
     name.add(path);
     name.add(suffix);

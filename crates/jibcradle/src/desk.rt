@@ -41,35 +41,33 @@ fn curr_of(message: &[u8]) -> u64 {
     fields::get_be(message, CURR, 8)
 }
 
-// Commit, gossip and flush. No other call comes here.
-fn make_change(
+// The calls that change the store, with as much of the journal's room as a journal may have.
+fn committed(
     store: &mut Store,
     journal: &mut [u8; ROOM],
     used: Place,
-    call: Call,
-    listed: &Listed,
+    t: u64,
+    objects: &[u64],
+    values: &[u64],
 ) -> Changed {
-    let journal = &mut journal[..room::MOST];
-    match call {
-        Call::Commit(t, count) => {
-            let n = entries(count, &listed.firsts);
-            let m = entries(count, &listed.seconds);
-            let objects = &listed.firsts[..n];
-            committing::commit(store, journal, used, t, objects, &listed.seconds[..m])
-        }
-        Call::Gossip(prev, curr, count) => {
-            let n = entries(count, &listed.firsts);
-            gossiping::gossip(store, journal, used, prev, curr, &listed.firsts[..n])
-        }
-        Call::Flush(page) => flushing::flush(store, journal, used, page),
-        _ => Changed {
-            answer: Answer::Nothing(0),
-            place: used,
-        },
-    }
+    committing::commit(store, &mut journal[..room::MOST], used, t, objects, values)
 }
 
-// A message that a coordinator wrote.
+fn gossiped(
+    store: &mut Store,
+    journal: &mut [u8; ROOM],
+    used: Place,
+    prev: u64,
+    curr: u64,
+    stamps: &[u64],
+) -> Changed {
+    gossiping::gossip(store, &mut journal[..room::MOST], used, prev, curr, stamps)
+}
+
+fn flushed(store: &mut Store, journal: &mut [u8; ROOM], used: Place, page: u64) -> Changed {
+    flushing::flush(store, &mut journal[..room::MOST], used, page)
+}
+
 fn heard(store: &mut Store, journal: &mut [u8; ROOM], used: Place, message: &[u8]) -> Changed {
     hearing::hear(store, &mut journal[..room::MOST], used, message)
 }
@@ -120,30 +118,72 @@ impl Keeper<'_> {
         terminal::say::bytes(rt, answer.unwrap_or(asked), &request[..n])
     }
 
-    // The three reads, ask, known, and standing.
-    fn is_shown(&self, rt: &HostRuntime, call: Call) -> bool {
-        let store = &self.store;
+    // A page at the last snapshot up to a time.
+    fn is_snapshot_shown(&self, rt: &HostRuntime, time: u64, page: u64) -> bool {
         let mut words = [0u64; 16];
-        match call {
-            Call::Read(time, page) => {
-                let answer = reads::snapshot_read(store, time, page, &mut words);
-                say::page(rt, answer, &words)
-            }
-            Call::Clock(tick, page) => {
-                let answer = reads::clock_read(store, tick, page, &mut words);
-                say::page(rt, answer, &words)
-            }
-            Call::Now(page) => {
-                let answer = reads::current_read(store, page, &mut words);
-                say::page(rt, answer, &words)
-            }
-            Call::Ask(to) => self.is_asked(rt, None, to),
-            Call::Known => self.is_known_shown(rt),
-            _ => self.is_standing_shown(rt),
-        }
+        let answer = reads::snapshot_read(&self.store, time, page, &mut words);
+        say::page(rt, answer, &words)
     }
 
-    // A message is answered as a change, or by what is to be asked for.
+    // The same, by a clock tick.
+    fn is_clock_shown(&self, rt: &HostRuntime, tick: u64, page: u64) -> bool {
+        let mut words = [0u64; 16];
+        let answer = reads::clock_read(&self.store, tick, page, &mut words);
+        say::page(rt, answer, &words)
+    }
+
+    // The current page.
+    fn is_current_shown(&self, rt: &HostRuntime, page: u64) -> bool {
+        let mut words = [0u64; 16];
+        let answer = reads::current_read(&self.store, page, &mut words);
+        say::page(rt, answer, &words)
+    }
+
+    // So many writes of objects, with one stamp.
+    fn commit(
+        &mut self,
+        rt: &HostRuntime,
+        stamp: u64,
+        count: usize,
+        listed: &Listed,
+    ) -> Result<(), Stop> {
+        let n = entries(count, &listed.firsts);
+        let m = entries(count, &listed.seconds);
+        let done = committed(
+            &mut self.store,
+            &mut self.journal,
+            self.place,
+            stamp,
+            &listed.firsts[..n],
+            &listed.seconds[..m],
+        );
+        self.settle(rt, done)
+    }
+
+    fn gossip(
+        &mut self,
+        rt: &HostRuntime,
+        prev: u64,
+        curr: u64,
+        stamps: &[u64],
+    ) -> Result<(), Stop> {
+        let done = gossiped(
+            &mut self.store,
+            &mut self.journal,
+            self.place,
+            prev,
+            curr,
+            stamps,
+        );
+        self.settle(rt, done)
+    }
+
+    fn flush(&mut self, rt: &HostRuntime, page: u64) -> Result<(), Stop> {
+        let done = flushed(&mut self.store, &mut self.journal, self.place, page);
+        self.settle(rt, done)
+    }
+
+    // A message that a coordinator wrote is answered as a change, or by what is to be asked for.
     fn hear(&mut self, rt: &HostRuntime, message: &[u8]) -> Result<(), Stop> {
         let done = heard(&mut self.store, &mut self.journal, self.place, message);
         if let Answer::Gap(_) = done.answer {
@@ -212,24 +252,18 @@ impl Desk for Keeper<'_> {
                 let n = paths::within(count, &message);
                 self.hear(rt, &message[..n])
             }
-            Ok(
-                call @ (Call::Read(_, _)
-                | Call::Clock(_, _)
-                | Call::Now(_)
-                | Call::Ask(_)
-                | Call::Known
-                | Call::Standing),
-            ) => given(self.is_shown(rt, call)),
-            Ok(call @ (Call::Commit(_, _) | Call::Gossip(_, _, _) | Call::Flush(_))) => {
-                let done = make_change(
-                    &mut self.store,
-                    &mut self.journal,
-                    self.place,
-                    call,
-                    &listed,
-                );
-                self.settle(rt, done)
+            Ok(Call::Read(time, page)) => given(self.is_snapshot_shown(rt, time, page)),
+            Ok(Call::Clock(tick, page)) => given(self.is_clock_shown(rt, tick, page)),
+            Ok(Call::Now(page)) => given(self.is_current_shown(rt, page)),
+            Ok(Call::Ask(to)) => given(self.is_asked(rt, None, to)),
+            Ok(Call::Known) => given(self.is_known_shown(rt)),
+            Ok(Call::Standing) => given(self.is_standing_shown(rt)),
+            Ok(Call::Commit(stamp, count)) => self.commit(rt, stamp, count, &listed),
+            Ok(Call::Gossip(prev, curr, count)) => {
+                let n = entries(count, &listed.firsts);
+                self.gossip(rt, prev, curr, &listed.firsts[..n])
             }
+            Ok(Call::Flush(page)) => self.flush(rt, page),
         }
     }
 }

@@ -1,7 +1,6 @@
 // A store from its start to the end of the input.
-use crate::demo;
 use crate::desk::Keeper;
-use files::{file, fit, lock, paths, room};
+use files::{file, paths, room};
 use model::Answer;
 use std::fs::File;
 use tables::Store;
@@ -30,14 +29,8 @@ fn is_opened(
     true
 }
 
-// A store from its start to its end. The input is standard input, or the night's lines.
-fn is_served(
-    rt: &HostRuntime,
-    path: &[u8],
-    file: Option<File>,
-    source: Source,
-    laid: &[u8],
-) -> bool {
+// The store of a journal's file, or one in memory, from its start to its end.
+fn is_kept(rt: &HostRuntime, path: &[u8], file: Option<File>, source: Source, laid: &[u8]) -> bool {
     let mut journal = io::large_buffer();
     let Some(count) = file::read(rt, path, file.as_ref(), &mut journal) else {
         return false;
@@ -61,26 +54,13 @@ fn is_served(
     serve::is_served(rt, &mut keeper, source, laid)
 }
 
-pub fn in_memory(rt: &HostRuntime) -> bool {
-    is_served(rt, b"", None, Source::Typed, b"")
-}
-
-pub fn night(rt: &HostRuntime) -> bool {
-    is_served(rt, b"", None, Source::Laid, demo::LINES)
-}
-
-// Nothing is read before the lock is ours. False where something failed, after a word on standard error.
-pub fn in_file(rt: &HostRuntime, path: &[u8]) -> bool {
-    let is_ours = say::are_open(rt)
-        && fit::is_fit(rt, path, b"a journal")
-        && lock::is_taken(rt, path, b"the journal");
-    if !is_ours {
-        return false;
+// The input is standard input, or the night's lines. False where something failed, after a word on standard error.
+pub fn is_served(rt: &HostRuntime, path: &[u8], source: Source, laid: &[u8]) -> bool {
+    if path.is_empty() {
+        return is_kept(rt, path, None, source, laid);
     }
-    let served = match file::opened(rt, path) {
-        Some(file) => is_served(rt, path, Some(file), Source::Typed, b""),
+    match file::opened(rt, path) {
+        Some(file) => is_kept(rt, path, Some(file), source, laid),
         None => false,
-    };
-    lock::release(rt, path);
-    served
+    }
 }

@@ -9,12 +9,11 @@ mod kept;
 mod records;
 mod say;
 
+use terminal::input::Source;
 use terminal::start;
-use terminal::start::Command;
+use terminal::start::{Command, UNLOCK};
 
 const RECORDS: &[u8] = b"--records";
-
-const UNLOCK: &[u8] = b"--unlock";
 
 struct Jibcradle;
 
@@ -23,16 +22,24 @@ impl Command for Jibcradle {
         b"the name of the journal"
     }
 
-    fn is_done_in_memory(rt: &HostRuntime) -> bool {
-        kept::in_memory(rt)
+    fn any_file() -> &'static [u8] {
+        b"a journal"
     }
 
-    fn is_shown(rt: &HostRuntime) -> bool {
-        kept::night(rt)
+    fn this_file() -> &'static [u8] {
+        b"the journal"
     }
 
-    fn is_done_in_file(rt: &HostRuntime, path: &[u8]) -> bool {
-        kept::in_file(rt, path)
+    fn lines() -> &'static [u8] {
+        demo::LINES
+    }
+
+    fn can_keep(_rt: &HostRuntime, _path: &[u8]) -> bool {
+        true
+    }
+
+    fn is_served(rt: &HostRuntime, path: &[u8], source: Source, laid: &[u8]) -> bool {
+        kept::is_served(rt, path, source, laid)
     }
 
     fn knows(word: &[u8]) -> bool {

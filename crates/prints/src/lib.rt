@@ -59,15 +59,9 @@ pub fn page(rt: &HostRuntime, words: &[u64]) {
 }
 
 fn spaced(rt: &HostRuntime, words: &[u64]) {
-    let mut i: usize = 0;
-    while i < words.len() {
-        one_word(rt, words[i]);
-        i += 1;
+    for n in words {
+        number(rt, b" ", *n);
     }
-}
-
-fn one_word(rt: &HostRuntime, n: u64) {
-    number(rt, b" ", n);
 }
 
 // The used bytes of the journal.
@@ -79,16 +73,10 @@ pub fn bytes(rt: &HostRuntime, journal: &[u8], used: usize) {
 }
 
 fn hexed(rt: &HostRuntime, bytes: &[u8]) {
-    let mut i: usize = 0;
-    while i < bytes.len() {
-        one_byte(rt, bytes[i]);
-        i += 1;
+    for b in bytes {
+        text(rt, b" ");
+        let mut digits = [0u8; 16];
+        let k = io::hex(*b as u64, 2, &mut digits);
+        text(rt, &digits[..k]);
     }
-}
-
-fn one_byte(rt: &HostRuntime, b: u8) {
-    text(rt, b" ");
-    let mut digits = [0u8; 16];
-    let k = io::hex(b as u64, 2, &mut digits);
-    text(rt, &digits[..k]);
 }

@@ -54,6 +54,11 @@ pub fn text(rt: &HostRuntime, words: &[u8]) -> bool {
     }
 }
 
+// One text after the other, up to the first that isn't taken.
+pub fn texts(rt: &HostRuntime, texts: &[&[u8]]) -> bool {
+    texts.iter().all(|words| text(rt, words))
+}
+
 // A number's digits. It says no word where standard output takes no more.
 pub fn digits(rt: &HostRuntime, n: u64) -> bool {
     let mut room = [0u8; 20];

@@ -1,5 +1,6 @@
 // The lines of the input, each served at a desk: by the command that has the desk.
-ghost use Rattle.std.specs.Prelude.{length};
+ghost use Rattle.std.specs.Prelude.{◌≡◌, true, false, length, MatchResult};
+ghost use Rattle.terminal.specs.declared.serve.Stop.TheVariants.{Failed};
 ghost use Rattle.terminal.specs.Buffers.{Within};
 
 use crate::input;
@@ -13,7 +14,9 @@ pub enum Stop {
 }
 
 // An answer that was given, or couldn't be.
-pub fn given(said: bool) -> Result<(), Stop> {
+pub fn given(said: bool) -> Result<(), Stop>
+    ensures { MatchResult result (λ _. said ≡ true) (λ stop. (said ≡ false) × (stop ≡ Failed)) }
+{
     if said { Ok(()) } else { Err(Stop::Failed) }
 }
 

@@ -1,6 +1,7 @@
 // The script that starts a program gives its status: `--under PARENT` stands before the other words, and the status goes to
 // descriptor 3 when the program ends. The program's own status is 0 then, so that another shows that it was never started.
 use crate::words;
+use crate::words::Status;
 use files::{holder, paths};
 use std::fs::OpenOptions;
 use std::io::Write;
@@ -16,16 +17,8 @@ pub fn is_orphan(rt: &HostRuntime) -> bool {
     }
 }
 
-fn line_of(status: u64) -> u8 {
-    match status {
-        0 => b'0',
-        1 => b'1',
-        _ => b'2',
-    }
-}
-
-pub fn tell(rt: &HostRuntime, status: u64) {
-    let line = [line_of(status), b'\n'];
+pub fn tell(rt: &HostRuntime, status: Status) {
+    let line = [status.digit(), b'\n'];
     if let Ok(mut file) = OpenOptions::new().read(true).append(true).open(rt, STATUS) {
         let _ = file.write_all(&line);
     }

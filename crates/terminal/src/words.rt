@@ -1,5 +1,4 @@
-// The words that a command is started with, and the status that it ends with: 0 where all was served, 1 where a file, a lock or a write
-// failed, 2 for bad usage.
+// The words that a command is started with, and the status that it ends with.
 use files::text::Name;
 use files::{paths, trouble};
 use std::env::FillError;
@@ -10,6 +9,33 @@ use std::rt::Env;
 const EINVAL: i32 = 22;
 
 const ENAMETOOLONG: i32 = 36;
+
+// How a command ends: all was served; a file, a lock or a write failed; or it was called by the wrong words.
+#[derive(Clone, Copy, PartialEq, Eq, Debug)]
+pub enum Status {
+    Served,
+    Failed,
+    Misused,
+}
+
+impl Status {
+    pub fn of(served: bool) -> Status {
+        if served {
+            Status::Served
+        } else {
+            Status::Failed
+        }
+    }
+
+    // The digit that the script is told.
+    pub fn digit(self) -> u8 {
+        match self {
+            Status::Served => b'0',
+            Status::Failed => b'1',
+            Status::Misused => b'2',
+        }
+    }
+}
 
 // A word of those that the program is started with, or why it can't be had.
 pub fn word(rt: &HostRuntime, at: usize) -> Result<Name, Error> {
@@ -44,17 +70,13 @@ pub fn count_from(rt: &HostRuntime, first: usize) -> usize {
     3
 }
 
-pub fn status_of(served: bool) -> u64 {
-    if served { 0 } else { 1 }
-}
-
 // How the script is called: a person starts both programs by it.
-pub fn misused(rt: &HostRuntime) -> u64 {
+pub fn misused(rt: &HostRuntime) -> Status {
     trouble::more(
         rt,
         b"usage: jibcradle [JOURNAL | --coordinator [FILE] | --demo | --records JOURNAL | --help | --version]\n",
     );
-    2
+    Status::Misused
 }
 
 // A word that begins like an option is never a file: no mistyped option becomes one.
