@@ -1,4 +1,4 @@
-// What C and Rust call: the whole store is one struct behind a reference, and no table is copied. A coordinator is one array of words.
+// What C and Rust call: the whole store is one struct behind a reference, and no table is copied. A coordinator is one struct too.
 #![tactic(auto)]
 
 pub mod changing;
