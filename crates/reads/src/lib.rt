@@ -116,8 +116,11 @@ pub fn clock_read(store: &Store, tick: u64, page: u64, buffer: &mut [u64]) -> An
 pub fn current_read(store: &Store, page: u64, buffer: &mut [u64]) -> Answer
     ensures { Read (model.current_read (stored store.now) page buffer.old) result buffer.new }
 {
+    if damage::out_of_range(store) {
+        return Answer::Damaged;
+    }
     let mut index = [128u8; 512];
-    if damage::damaged_or_indexed(store, &mut index) {
+    if damage::met_again(&store.written.pending, store.heads.pending, &mut index) {
         return Answer::Damaged;
     }
     if !read_shaped(page, buffer) {
