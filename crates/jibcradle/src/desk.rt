@@ -97,7 +97,7 @@ impl Keeper<'_> {
                 Answer::Done(0),
                 known.horizon,
                 known.last,
-                known.snapshots,
+                &known.stamps[..known.count as usize],
             ),
             None => terminal::say::known(rt, Answer::Damaged, 0, 0, &[]),
         }
