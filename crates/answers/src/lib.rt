@@ -6,16 +6,19 @@ pub mod line;
 mod parts;
 pub mod records;
 
-ghost use Rattle.std.specs.Prelude.{◌≡◌};
+ghost use Rattle.std.specs.Prelude.{◌≡◌, ◌≤◌, length};
 ghost use Rattle.answers.specs.Hex.{bytes_line};
-ghost use Rattle.answers.specs.Says.{answer_line, opened_line, page_line, known_line, standing_line, fault_line};
+ghost use Rattle.answers.specs.Says.{room, answer_line, opened_line, page_line, known_line, standing_line, fault_line};
+
+pub use line::ROOM;
 
 use crate::line::Line;
 use model::{Answer, Figures};
 
 // "CODE NUMBER NAME\n"
 pub fn answer_line(answer: Answer) -> Line
-    ensures { result ≡ answer_line answer }
+    ensures said { result ≡ answer_line answer }
+    ensures short { length result ≤ room }
 {
     let mut line = Line::new();
     line.answered(answer);
@@ -25,7 +28,8 @@ pub fn answer_line(answer: Answer) -> Line
 
 // The same, and behind it a page's sixteen words where the answer is Done.
 pub fn page_line(answer: Answer, words: &[u64]) -> Line
-    ensures { result ≡ page_line answer words.now }
+    ensures said { result ≡ page_line answer words.now }
+    ensures short { length result ≤ room }
 {
     let mut line = Line::new();
     line.answered(answer);
@@ -36,7 +40,8 @@ pub fn page_line(answer: Answer, words: &[u64]) -> Line
 
 // The same, and behind it the horizon, the last stamp and the stamps where the answer is Done and the stamps are at most 64.
 pub fn known_line(answer: Answer, horizon: u64, last: u64, stamps: &[u64]) -> Line
-    ensures { result ≡ known_line answer horizon last stamps.now }
+    ensures said { result ≡ known_line answer horizon last stamps.now }
+    ensures short { length result ≤ room }
 {
     let mut line = Line::new();
     line.answered(answer);
@@ -47,7 +52,8 @@ pub fn known_line(answer: Answer, horizon: u64, last: u64, stamps: &[u64]) -> Li
 
 // The same, and behind it the bytes in hexadecimal where there are any and at most 512.
 pub fn bytes_line(answer: Answer, bytes: &[u8]) -> Line
-    ensures { result ≡ bytes_line answer bytes.now }
+    ensures said { result ≡ bytes_line answer bytes.now }
+    ensures short { length result ≤ room }
 {
     let mut line = Line::new();
     line.answered(answer);
@@ -58,7 +64,8 @@ pub fn bytes_line(answer: Answer, bytes: &[u8]) -> Line
 
 // The same, and behind it the figures where the answer is Done: pending, past, snapshots, copies, and the lag with its sign.
 pub fn standing_line(answer: Answer, figures: Figures) -> Line
-    ensures { result ≡ standing_line answer figures }
+    ensures said { result ≡ standing_line answer figures }
+    ensures short { length result ≤ room }
 {
     let mut line = Line::new();
     line.answered(answer);
@@ -69,7 +76,8 @@ pub fn standing_line(answer: Answer, figures: Figures) -> Line
 
 // "? TEXT at line L column C\n", with a hint before the end where there is no such call.
 pub fn fault_line(fault: u64, line: u64, column: u64) -> Line
-    ensures { result ≡ fault_line fault line column }
+    ensures said { result ≡ fault_line fault line column }
+    ensures short { length result ≤ room }
 {
     let mut said = Line::new();
     said.text(b"? ");
@@ -82,7 +90,8 @@ pub fn fault_line(fault: u64, line: u64, column: u64) -> Line
 
 // ": CODE NUMBER NAME\n", behind the name of what was opened.
 pub fn opened_line(answer: Answer) -> Line
-    ensures { result ≡ opened_line answer }
+    ensures said { result ≡ opened_line answer }
+    ensures short { length result ≤ room }
 {
     let mut line = Line::new();
     line.text(b": ");
