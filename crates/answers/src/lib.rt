@@ -10,9 +10,8 @@ ghost use Rattle.std.specs.Prelude.{◌≡◌, ◌≤◌, length};
 ghost use Rattle.answers.specs.Hex.{bytes_line};
 ghost use Rattle.answers.specs.Says.{room, answer_line, opened_line, page_line, known_line, standing_line, fault_line};
 
-pub use line::ROOM;
-
 use crate::line::Line;
+pub use line::ROOM;
 use model::{Answer, Figures};
 
 // "CODE NUMBER NAME\n"
