@@ -5,7 +5,7 @@ ghost use Rattle.answers.specs.Says.{room, text as ascii, digit as Says·digit, 
 use std::marker::Model;
 
 // The most bytes that a line has.
-const ROOM: usize = 2048;
+pub const ROOM: usize = 2048;
 
 #[derive(Drop)]
 pub struct Line {
@@ -32,7 +32,7 @@ impl Line {
     }
 
     pub fn bytes(&self) -> &[u8]
-        ensures all { result.now ≡ self.now }
+        ensures text { result.now ≡ self.now }
         ensures short { length result.now ≤ room }
     {
         let whole = &self.written[..];

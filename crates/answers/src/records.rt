@@ -72,7 +72,7 @@ pub fn commit_line(
     size: u64,
     line: &mut Line,
 )
-    ensures text { line.new ≡ commit_line stamp objects.now values.now offset size }
+    ensures said { line.new ≡ commit_line stamp objects.now values.now offset size }
     ensures short { length line.new ≤ room }
 {
     line.clear();
@@ -84,7 +84,7 @@ pub fn commit_line(
 
 // "gossip PREV CURR S S  # OFFSET LENGTH\n"
 pub fn gossip_line(prev: u64, curr: u64, stamps: &[u64], offset: u64, size: u64, line: &mut Line)
-    ensures text { line.new ≡ gossip_line prev curr stamps.now offset size }
+    ensures said { line.new ≡ gossip_line prev curr stamps.now offset size }
     ensures short { length line.new ≤ room }
 {
     line.clear();
@@ -96,7 +96,7 @@ pub fn gossip_line(prev: u64, curr: u64, stamps: &[u64], offset: u64, size: u64,
 
 // "flush PAGE  # OFFSET LENGTH\n"
 pub fn flush_line(page: u64, offset: u64, size: u64, line: &mut Line)
-    ensures text { line.new ≡ flush_line page offset size }
+    ensures said { line.new ≡ flush_line page offset size }
     ensures short { length line.new ≤ room }
 {
     line.clear();
@@ -107,7 +107,7 @@ pub fn flush_line(page: u64, offset: u64, size: u64, line: &mut Line)
 
 // "# PLACE end\n": nothing stands behind the last record.
 pub fn end_line(place: u64, line: &mut Line)
-    ensures text { line.new ≡ end_line place }
+    ensures said { line.new ≡ end_line place }
     ensures short { length line.new ≤ room }
 {
     line.clear();
@@ -118,7 +118,7 @@ pub fn end_line(place: u64, line: &mut Line)
 
 // "# PLACE torn, COUNT bytes\n": these bytes are no whole record.
 pub fn torn_line(place: u64, bytes: u64, line: &mut Line)
-    ensures text { line.new ≡ torn_line place bytes }
+    ensures said { line.new ≡ torn_line place bytes }
     ensures short { length line.new ≤ room }
 {
     line.clear();
@@ -131,7 +131,7 @@ pub fn torn_line(place: u64, bytes: u64, line: &mut Line)
 
 // "# CODE NUMBER NAME\n": a record is refused.
 pub fn refusal_line(answer: Answer, line: &mut Line)
-    ensures text { line.new ≡ refusal_line answer }
+    ensures said { line.new ≡ refusal_line answer }
     ensures short { length line.new ≤ room }
 {
     line.clear();
