@@ -1,7 +1,7 @@
 -- A page as of many stamps: sixteen words a stamp, one word put for all stamps of a span, and rows laid over all of them.
 use Prim.Native.Nat.{ℕ, zero, suc, ◌+◌, ◌*◌, ◌≤◌, ◌<◌}
 use mathlib.Core.Path.{◌≡◌, refl, ap, sym, ◌∙◌}
-use mathlib.Core.Bool.{Bool, true}
+use mathlib.Core.Bool.{Bool, true, false}
 use mathlib.Core.List.{List, [], ◌∷◌, ◌++◌}
 use native.Mathlib.Omega.{arith}
 use lib.ListN.{length, take, drop, get_or, set, length-set, length-drop}
@@ -27,7 +27,11 @@ use Rattle.shares.specs.Shares.{row_of_page, rows_at, Shared}
 use Rattle.shares.specs.Many.{Pages, page_at}
 use Rattle.shares.proofs.Laying.{lay_listed}
 
--- ---- stamps in order
+-- ---- what is shown as of a stamp is shown as of those before it, from its own on
+pub shown_before : (shown : ℕ → Bool) (own : ℕ) → ((s t : ℕ) → own ≤ s → s ≤ t → shown s ≡ false → shown t ≡ false)
+    → (s : ℕ) {t : ℕ} → shown t ≡ true → own ≤ s → s ≤ t → shown s ≡ true
+shown_before shown own over s {t} e h m = by_test (shown s) (λ y. y) (λ n. let z = over s t h m n in cc)
+
 -- ---- sixteen words from a place on
 cut_take : (b a : ℕ) (l : List ℕ) → b + 16 ≤ a → take 16 (drop b (take a l)) ≡ take 16 (drop b l)
 cut_take zero a l h = take-take 16 a l (omega arith)
