@@ -12,19 +12,19 @@ pub struct Listed<T: Copy, const N: usize> {
 
 // Clauses see the items, and the room behind them: were it forgotten, no list could be Copy.
 impl<T: Copy, const N: usize> Model for Listed<T, N> {
-    ghost use Rattle.std.specs.Prelude.{ℕ, take, drop, length, ◌++◌, ◌≤◌};
-    ghost use Rattle.std.proofs.lemmas.List.{take-append-drop, length-take-le};
+    ghost use Rattle.std.specs.Prelude.{ℕ, ◌≡◌, take, drop, length, ◌++◌, ◌≤◌};
+    ghost use Rattle.std.proofs.Common.{sym, subst, take-append-drop, length-take-le};
     ghost use Rattle.shares.specs.Listing.{Lists};
 
     ghost Value = { Lists T };
 
     ghost view = { λ s. record { items = take s.count s.at; rest = drop s.count s.at } };
 
-    ghost invariant = { λ s. s.count ≤ length s.at };
+    ghost invariant = { λ s. (s.count ≤ N) × (length s.at ≡ N) };
 
     ghost inverse = { λ v. record { at = v.items ++ v.rest; count = length v.items } };
 
-    ghost inverse_ok = { λ s h i. record { at = take-append-drop s.count s.at i; count = length-take-le s.count s.at h i } };
+    ghost inverse_ok = { λ s h i. record { at = take-append-drop s.count s.at i; count = length-take-le s.count s.at (subst (λ n. s.count ≤ n) (sym h.1) h.0) i } };
 }
 
 impl<T: Copy, const N: usize> Copy for Listed<T, N> {}
