@@ -1,12 +1,18 @@
--- A line grows by one part behind another, and by one of many.
-use Rattle.std.proofs.Common.{ℕ, List, [], ◌∷◌, ◌++◌, ◌+◌, ◌<◌, ◌≡◌, ap, ◌∙◌, sym, length, take, get_or, arith}
+-- A line grows by one part behind another, and by one of many. Two tests of whether a part stands there. An answer is Done where its code is 0.
+use Rattle.std.proofs.Common.{ℕ, true, List, [], ◌∷◌, ◌++◌, ◌+◌, ◌<◌, ◌≡◌, ap, ◌∙◌, sym, length, take, get_or, arith}
+use mathlib.Core.Path.{refl}
+use mathlib.Core.Bool.{Bool, false}
 use mathlib.Core.List.{append_assoc, append-nil}
 use native.Mathlib.Numerals.{add-one}
+use borrow.Author.Tests.{eq-eqb}
 use lib.ListN.{length-take}
 use lib.Seq.{take-suc}
 use Rattle.answers.specs.Says.{text, decimal, spaced}
 use Rattle.answers.specs.Records.{write_text, writes_text}
 use Rattle.answers.specs.Hex.{hex_pair, hex_of}
+use Rattle.model.specs.Lists.{both}
+use Rattle.model.specs.Answers.{code_of, is_done}
+use Rattle.model.specs.declared.Answer.{Answer}
 
 -- xs, behind it a, behind that b; and a with b is c
 pub then_all : (xs a b : List ℕ) {c ys zs : List ℕ} → ys ≡ xs ++ a → zs ≡ ys ++ b → a ++ b ≡ c → zs ≡ xs ++ c
@@ -41,3 +47,19 @@ hex_behind (c ∷ bs) b = append_assoc (hex_pair c) (hex_of bs) (hex_pair b) ∙
 
 pub hex_next : (bs : List ℕ) (i : ℕ) → i < length bs → hex_of (take i bs) ++ hex_pair (get_or bs i 0) ≡ hex_of (take (i + 1) bs)
 hex_next bs i h = rw (add-one, take-suc bs i 0 h) (hex_behind (take i bs) (get_or bs i 0))
+
+-- ---- two tests
+pub both_yes : {b c : Bool} → b ≡ true → c ≡ true → both b c ≡ true
+both_yes e f = rw (e, f)
+
+pub left_no : {b : Bool} (c : Bool) → b ≡ false → both b c ≡ false
+left_no c e = rw e
+
+pub right_no : (b : Bool) {c : Bool} → c ≡ false → both b c ≡ false
+right_no true e = e
+right_no false e = refl
+
+-- ---- whether an answer is Done
+module _ (a : Answer) {k : ℕ} (e : k ≡ code_of a) where
+  pub is_done_lem : k ≡ 0 → is_done a ≡ true
+  is_done_lem z = eq-eqb (code_of a) 0 (sym e ∙ z)

@@ -8,7 +8,7 @@ use Rattle.model.specs.declared.Figures.{Figures}
 use Rattle.model.specs.declared.Answer.{Answer}
 use Rattle.model.specs.declared.Answer.TheVariants.{Done, Nothing, Damaged, Shape, Twice, Late, Gap, Conflict, PendingFull, PastFull, SnapshotsFull, ArchiveFull, NoRoom, Ahead, NoSnapshot, Version, Malformed, Contradiction}
 
--- ---- how many bytes are lent
+-- ---- the most bytes that a line has
 abbrev pub room : ℕ
 room = 2048
 
@@ -132,7 +132,7 @@ hint_text fault = pick (eqb fault 0) (text "; help lists them") []
 abbrev pub fault_line : ℕ → ℕ → ℕ → List ℕ
 fault_line fault line column = text "? " ++ fault_text fault ++ position_text line column ++ hint_text fault ++ text "\n"
 
--- ---- what a call of the library leaves: the line stands at the front of the lent bytes, and r is how many bytes it has
+-- ---- a line at the front of `room` bytes, and r is how many bytes it has
 pub record Said (line out : List ℕ) (r : ℕ) : Type 0 where
   pub said : take r out ≡ line
   pub count : r ≤ room

@@ -5,7 +5,7 @@ ghost use Rattle.answers.specs.Says.{room, text as ascii, digit as Says·digit, 
 use std::marker::Model;
 
 // The most bytes that a line has.
-const ROOM: usize = 2048;
+pub const ROOM: usize = 2048;
 
 #[derive(Drop)]
 pub struct Line {
@@ -32,16 +32,25 @@ impl Line {
     }
 
     pub fn bytes(&self) -> &[u8]
-        ensures { result.now ≡ self.now }
+        ensures text { result.now ≡ self.now }
+        ensures short { length result.now ≤ room }
     {
         let whole = &self.written[..];
         &whole[..self.used]
     }
 
+    // The line begins anew.
+    pub fn clear(&mut self)
+        ensures { self.new ≡ [] }
+    {
+        self.used = 0;
+    }
+
     // The bytes of a text.
     pub(crate) fn text(&mut self, text: &[u8])
         requires { length self.old + length text.now ≤ room }
-        ensures { self.new ≡ self.old ++ text.now }
+        ensures text { self.new ≡ self.old ++ text.now }
+        ensures short { length self.new ≤ room }
     {
         let end = self.used + text.len();
         self.written[self.used..end].copy_from_slice(text);

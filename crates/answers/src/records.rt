@@ -54,7 +54,8 @@ impl Line {
     // A record's place and how many bytes it has, and the line's end.
     fn comment(&mut self, offset: u64, size: u64)
         requires { length self.old + 46 ≤ room }
-        ensures { self.new ≡ self.old ++ comment_text offset size }
+        ensures text { self.new ≡ self.old ++ comment_text offset size }
+        ensures short { length self.new ≤ room }
     {
         self.text(b"  #");
         self.words(&[offset, size]);
@@ -63,71 +64,78 @@ impl Line {
 }
 
 // "commit STAMP O=V O=V  # OFFSET LENGTH\n"
-pub fn commit_line(stamp: u64, objects: &[u64], values: &[u64], offset: u64, length: u64) -> Line
-    ensures { result ≡ commit_line stamp objects.now values.now offset length }
+pub fn commit_line(
+    stamp: u64,
+    objects: &[u64],
+    values: &[u64],
+    offset: u64,
+    size: u64,
+    line: &mut Line,
+)
+    ensures said { line.new ≡ commit_line stamp objects.now values.now offset size }
+    ensures short { length line.new ≤ room }
 {
-    let mut line = Line::new();
+    line.clear();
     line.text(b"commit ");
     line.number(stamp);
     line.changes(objects, values);
-    line.comment(offset, length);
-    line
+    line.comment(offset, size);
 }
 
 // "gossip PREV CURR S S  # OFFSET LENGTH\n"
-pub fn gossip_line(prev: u64, curr: u64, stamps: &[u64], offset: u64, length: u64) -> Line
-    ensures { result ≡ gossip_line prev curr stamps.now offset length }
+pub fn gossip_line(prev: u64, curr: u64, stamps: &[u64], offset: u64, size: u64, line: &mut Line)
+    ensures said { line.new ≡ gossip_line prev curr stamps.now offset size }
+    ensures short { length line.new ≤ room }
 {
-    let mut line = Line::new();
+    line.clear();
     line.text(b"gossip");
     line.words(&[prev, curr]);
     line.few(stamps);
-    line.comment(offset, length);
-    line
+    line.comment(offset, size);
 }
 
 // "flush PAGE  # OFFSET LENGTH\n"
-pub fn flush_line(page: u64, offset: u64, length: u64) -> Line
-    ensures { result ≡ flush_line page offset length }
+pub fn flush_line(page: u64, offset: u64, size: u64, line: &mut Line)
+    ensures said { line.new ≡ flush_line page offset size }
+    ensures short { length line.new ≤ room }
 {
-    let mut line = Line::new();
+    line.clear();
     line.text(b"flush ");
     line.number(page);
-    line.comment(offset, length);
-    line
+    line.comment(offset, size);
 }
 
 // "# PLACE end\n": nothing stands behind the last record.
-pub fn end_line(place: u64) -> Line
-    ensures { result ≡ end_line place }
+pub fn end_line(place: u64, line: &mut Line)
+    ensures said { line.new ≡ end_line place }
+    ensures short { length line.new ≤ room }
 {
-    let mut line = Line::new();
+    line.clear();
     line.text(b"# ");
     line.number(place);
     line.text(b" end\n");
-    line
 }
 
 // "# PLACE torn, COUNT bytes\n": these bytes are no whole record.
-pub fn torn_line(place: u64, bytes: u64) -> Line
-    ensures { result ≡ torn_line place bytes }
+pub fn torn_line(place: u64, bytes: u64, line: &mut Line)
+    ensures said { line.new ≡ torn_line place bytes }
+    ensures short { length line.new ≤ room }
 {
-    let mut line = Line::new();
+    line.clear();
     line.text(b"# ");
     line.number(place);
     line.text(b" torn, ");
     line.number(bytes);
     line.text(b" bytes\n");
-    line
 }
 
 // "# CODE NUMBER NAME\n": a record is refused.
-pub fn refusal_line(answer: Answer) -> Line
-    ensures { result ≡ refusal_line answer }
+pub fn refusal_line(answer: Answer, line: &mut Line)
+    ensures said { line.new ≡ refusal_line answer }
+    ensures short { length line.new ≤ room }
 {
-    let mut line = Line::new();
+    line.clear();
     line.text(b"# ");
     line.answered(answer);
     line.text(b"\n");
-    line
 }

@@ -32,7 +32,7 @@ module _ (j : List ℕ) (used : ℕ) {v : Verdict} where
     reaches : r ≡ reached used c
     reaches = rw (reached_is used c, l) p
 
-    settled_no_room : length j < r → NoRoom r ≡ roomed v j used c
+    pub settled_no_room : length j < r → NoRoom r ≡ roomed v j used c
     settled_no_room h = rw (e, ← reaches, lt-leb r (length j) h)
 
     pub fits_there : r ≤ length j → (v ≡ Accepted) × (reached used c ≤ length j)

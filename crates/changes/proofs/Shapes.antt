@@ -17,6 +17,9 @@ both_split true b e = (refl, e)
 both_split false b e = clash (sym e)
 
 -- ---- three tests: the arguments make a change, the journal is in shape, the change is
+pub shape_first : {a : Bool} (b s : Bool) → a ≡ false → both (both a b) s ≡ false
+shape_first b s e = rw e
+
 pub shape_second : {a b : Bool} (s : Bool) → a ≡ true → b ≡ false → both (both a b) s ≡ false
 shape_second s e f = rw (e, f)
 

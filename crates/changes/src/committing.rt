@@ -15,7 +15,7 @@ use model::Answer;
 use tables::Store;
 
 // The lists and the journal have a shape that a commit can have.
-fn commit_shaped(journal: &[u8], used: Place, objects: &[u64], values: &[u64]) -> bool
+pub fn commit_shaped(journal: &[u8], used: Place, objects: &[u64], values: &[u64]) -> bool
     ensures { result ≡ both (both (eqb (length objects.now) (length values.now)) (journal_shaped journal.now used.at)) (objects_shaped objects.now) }
 {
     objects.len() == values.len()

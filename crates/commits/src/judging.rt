@@ -79,9 +79,9 @@ pub(crate) fn displaced(store: &Store, row: usize, object: u64, t: u64) -> Optio
 
 // How many entries and how many past values a commit's writes add.
 #[derive(Clone, Copy)]
-struct Weight {
-    entries: usize,
-    rows: usize,
+pub struct Weight {
+    pub entries: usize,
+    pub rows: usize,
 }
 
 // No object is named twice, so each write is weighed over the tables as they are before the first.

@@ -6,4 +6,4 @@ pub mod fitting;
 mod judging;
 
 pub use applying::{add_all, apply_commit};
-pub use judging::{judge_commit, judge_with_room, roomy};
+pub use judging::{Weight, judge_commit, judge_with_room, roomy};

@@ -1,7 +1,8 @@
 // One line served: the order that it is, carried out and answered.
+ghost use Rattle.std.specs.Prelude.{◌≤◌, length};
+
 use crate::help;
 use coordinator::State;
-use files::text::Text;
 use files::{paths, whole};
 use lines::orders::Order;
 use model::Answer;
@@ -21,13 +22,12 @@ pub struct Coordinator<'a> {
     pub length: usize,
 }
 
-// The state's bytes, as its file has them.
-fn bytes_of(state: &State) -> Text<STATE_ROOM> {
-    let mut out = [0u8; STATE_ROOM];
-    let n = say::written(state.keep(&mut out), &out);
-    let mut bytes = Text::new();
-    bytes.add(&out[..n]);
-    bytes
+// The state's bytes, as its file has them, laid in the room that is lent.
+fn bytes_of<'a>(state: &State, room: &'a mut [u8]) -> &'a [u8]
+    ensures { length result.now ≤ length room.old }
+{
+    let n = say::written(state.keep(room), room);
+    &room[..n]
 }
 
 // The answer, and behind it the message that it brings.
@@ -39,8 +39,8 @@ fn is_said(rt: &HostRuntime, answer: Answer, message: &[u8]) -> bool {
 impl Coordinator<'_> {
     // A state that a call has changed goes to the file, for good, before the call is answered. A file of no bytes is that of a fresh state.
     fn save(&mut self, rt: &HostRuntime, old: &[u8]) -> Result<(), Stop> {
-        let kept = bytes_of(&self.state);
-        let new = kept.bytes();
+        let mut room = [0u8; STATE_ROOM];
+        let new = bytes_of(&self.state, &mut room);
         if self.path.is_empty() || old == new {
             return Ok(());
         }
@@ -52,26 +52,29 @@ impl Coordinator<'_> {
 
     // A grant is answered by its stamp.
     fn grant(&mut self, rt: &HostRuntime, tick: u64, node: u64) -> Result<(), Stop> {
-        let old = bytes_of(&self.state);
+        let mut room = [0u8; STATE_ROOM];
+        let old = bytes_of(&self.state, &mut room);
         let answer = self.state.grant(tick, node);
-        self.save(rt, old.bytes())?;
+        self.save(rt, old)?;
         given(say::answer(rt, answer))
     }
 
     fn message(&mut self, rt: &HostRuntime, prev: u64, clock: u64) -> Result<(), Stop> {
-        let old = bytes_of(&self.state);
+        let mut room = [0u8; STATE_ROOM];
+        let old = bytes_of(&self.state, &mut room);
         let mut message = [0u8; MESSAGE_ROOM];
         let answer = self.state.message(prev, clock, &mut message);
-        self.save(rt, old.bytes())?;
+        self.save(rt, old)?;
         given(is_said(rt, answer, &message))
     }
 
     // A repository's request is answered by the message that it asks for.
     fn answer_request(&mut self, rt: &HostRuntime, request: &[u8]) -> Result<(), Stop> {
-        let old = bytes_of(&self.state);
+        let mut room = [0u8; STATE_ROOM];
+        let old = bytes_of(&self.state, &mut room);
         let mut message = [0u8; MESSAGE_ROOM];
         let answer = self.state.serve(request, &mut message);
-        self.save(rt, old.bytes())?;
+        self.save(rt, old)?;
         given(is_said(rt, answer, &message))
     }
 

@@ -5,7 +5,7 @@ use mathlib.Core.Bool.{true, false}
 use mathlib.Core.List.{List, [], ◌∷◌, ◌++◌}
 use native.Mathlib.Numerals.{add-one}
 use native.Mathlib.Omega.{arith}
-use lib.ListN.{length, get_or, set, length-set}
+use lib.ListN.{length, get_or, set, length-set, drop_of_length-le}
 use lib.Seq.{take-suc-set}
 use borrow.Author.Tests.{lt-ltb, le-ltb, le-leb, lt-leb}
 use Rattle.model.specs.declared.Answer.TheVariants.{Done, Damaged, Shape, Late, SnapshotsFull}
@@ -30,6 +30,10 @@ added s t l h =
     rw (add-one, all)
 
 -- ---- the highest of the stamps and what was sent
+module _ (g : List ℕ) (sent : ℕ) where
+  pub top_none : length g ≡ 0 → sent ≡ max (highest g) sent
+  top_none e = let few : length g ≤ 0 = omega arith in let none : g ≡ [] = drop_of_length-le g few in rw none (omega arith)
+
 pub top_is : (g : List ℕ) (sent : ℕ) → rising_from 0 g ≡ true → 0 < length g → max sent (get_or g (length g - 1) 0) ≡ max (highest g) sent
 top_is g sent r h = omega (arith, (highest_last 0 g r h).1)
 

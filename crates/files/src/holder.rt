@@ -27,7 +27,9 @@ pub fn text_of<const N: usize>(rt: &HostRuntime, name: &[u8]) -> Text<N> {
 }
 
 // Behind the program's name in what /proc tells of a process: the name ends with the last `)`, and may hold any byte itself.
-fn behind_name(told: &[u8]) -> &[u8] {
+fn behind_name(told: &[u8]) -> &[u8]
+    ensures { length result.now ≤ length told.now }
+{
     match told.iter().rposition(|b| *b == b')') {
         Some(at) => &told[at + 1..],
         None => b"",
@@ -35,7 +37,9 @@ fn behind_name(told: &[u8]) -> &[u8] {
 }
 
 // Behind the k-th blank.
-fn behind_blanks(text: &[u8], k: u64) -> &[u8] {
+fn behind_blanks(text: &[u8], k: u64) -> &[u8]
+    ensures { length result.now ≤ length text.now }
+{
     let mut left = k;
     for (i, b) in text.iter().enumerate() {
         if left == 0 {
@@ -145,7 +149,9 @@ fn met_to(word: &[u8], m: usize, byte: u8) -> usize
 }
 
 // Behind the word's first place in a text.
-fn behind_word<'a>(text: &'a [u8], word: &[u8]) -> &'a [u8] {
+fn behind_word<'a>(text: &'a [u8], word: &[u8]) -> &'a [u8]
+    ensures { length result.now ≤ length text.now }
+{
     let mut m = 0;
     for (i, byte) in text.iter().enumerate() {
         if m == word.len() {

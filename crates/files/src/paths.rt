@@ -16,6 +16,7 @@ pub fn folder(path: &[u8]) -> &[u8] {
     match path.iter().rposition(|b| *b == b'/') {
         Some(0) => b"/",
         Some(n) => &path[..n],
+        None if path.is_empty() => b"/",
         None => b".",
     }
 }

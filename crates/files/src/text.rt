@@ -35,7 +35,8 @@ impl<const N: usize> Text<N> {
     }
 
     pub fn bytes(&self) -> &[u8]
-        ensures { result.now ≡ self.now }
+        ensures text { result.now ≡ self.now }
+        ensures short { length result.now ≤ N }
     {
         let whole = &self.room[..];
         &whole[..self.used]

@@ -28,7 +28,7 @@ pub record Listed (st : model.Store) (page : ℕ) (due : List ℕ) (marked : ℕ
 
 -- what the judge found is so: the due snapshots and the mark, the page's share of the tables, and how many past rows stay
 pub record Planned (store : Store) (page : ℕ) (plan : Plan) : Type 0 where
-  pub lists : Listed (stored store) page plan.due plan.mark
+  pub lists : Listed (stored store) page plan.due.items plan.mark
   pub shares : Shared store.written store.heads page plan.share
   pub stay : plan.staying ≡ length (kept (stays_under store.snapshots (rule_of store.heads page plan.mark)) (take store.heads.past (pasts store.written.past)))
 

@@ -26,9 +26,9 @@ fn find_dues(
     ages: &[u64],
     due: &mut Listed<u64, 64>,
 )
-    requires { (high ≤ 64) × (16 * (high - low) ≤ length ages.now) × (low ≤ high) × (due.old ≡ []) }
-    ensures upper_bound { length due.new ≤ high - low }
-    ensures listed_to { (st : model.Store) (p m n : ℕ) → high ≤ n → n ≤ 64 → Telling st p m snapshots.now n low high ages.now → ListedTo st p m (take n snapshots.now) low high due.new }
+    requires { (high ≤ 64) × (16 * (high - low) ≤ length ages.now) × (low ≤ high) × (due.old.items ≡ []) }
+    ensures upper_bound { length due.new.items ≤ high - low }
+    ensures listed_to { (st : model.Store) (p m n : ℕ) → high ≤ n → n ≤ 64 → Telling st p m snapshots.now n low high ages.now → ListedTo st p m (take n snapshots.now) low high due.new.items }
 {
     for j in low..high {
         let s = snapshots[j];
@@ -51,10 +51,10 @@ fn list_within(
 )
     requires ready { Ready store.now page }
     requires shared { Shared store.now.written store.now.heads page share.now }
-    requires high_bound { (high < store.now.heads.snapshots) × (due.old ≡ []) }
+    requires high_bound { (high < store.now.heads.snapshots) × (due.old.items ≡ []) }
     requires low_lt_high { (low < high) × (16 * (high - low) ≤ length ages.old) }
-    ensures upper_bound { length due.new ≤ high - low }
-    ensures by_index { (m : ℕ) → ((i : ℕ) → low ≤ i → i < high → m < get_or store.now.snapshots i 0) → ListedTo (seen_in store.now.written store.now.heads) page m (take store.now.heads.snapshots store.now.snapshots) low (max low high) due.new }
+    ensures upper_bound { length due.new.items ≤ high - low }
+    ensures by_index { (m : ℕ) → ((i : ℕ) → low ≤ i → i < high → m < get_or store.now.snapshots i 0) → ListedTo (seen_in store.now.written store.now.heads) page m (take store.now.heads.snapshots store.now.snapshots) low (max low high) due.new.items }
 {
     let known = &store.snapshots[..];
     shares::many::look_at_all(
@@ -81,9 +81,9 @@ fn list_between(
 )
     requires ready { Ready store.now page }
     requires shared { Shared store.now.written store.now.heads page share.now }
-    requires high_bound { (high < store.now.heads.snapshots) × (due.old ≡ []) }
-    ensures upper_bound { length due.new ≤ high - low }
-    ensures by_index { (m : ℕ) → ((i : ℕ) → low ≤ i → i < high → m < get_or store.now.snapshots i 0) → ListedTo (seen_in store.now.written store.now.heads) page m (take store.now.heads.snapshots store.now.snapshots) low (max low high) due.new }
+    requires high_bound { (high < store.now.heads.snapshots) × (due.old.items ≡ []) }
+    ensures upper_bound { length due.new.items ≤ high - low }
+    ensures by_index { (m : ℕ) → ((i : ℕ) → low ≤ i → i < high → m < get_or store.now.snapshots i 0) → ListedTo (seen_in store.now.written store.now.heads) page m (take store.now.heads.snapshots store.now.snapshots) low (max low high) due.new.items }
 {
     if high <= low {
         return;
@@ -100,7 +100,7 @@ fn list_between(
 pub fn list_dues(store: &Store, page: u64, share: &Share, marked: u64, due: &mut Listed<u64, 64>)
     requires ready { Ready store.now page }
     requires shared { Shared store.now.written store.now.heads page share.now }
-    ensures { due.new ≡ dues_seen (seen_in store.now.written store.now.heads) page marked (take store.now.heads.snapshots store.now.snapshots) }
+    ensures { due.new.items ≡ dues_seen (seen_in store.now.written store.now.heads) page marked (take store.now.heads.snapshots store.now.snapshots) }
 {
     crate::whole(store);
     let w = &store.written;

@@ -7,30 +7,33 @@ mod judge;
 mod rows;
 mod settle;
 
-ghost use Rattle.std.specs.Prelude.{◌≡◌};
+ghost use Rattle.std.specs.Prelude.{◌≡◌, []};
 ghost use Rattle.model.specs.Changes.{flush_store};
 ghost use Rattle.model.specs.Judgement.{judge_flush};
 ghost use Rattle.tables.specs.Contents.{stored, Laid};
 ghost use Rattle.flushes.specs.Promises.{Whole, Ready, Planned, Room, Applied};
 
 use model::Verdict;
-use rows::Rule;
+pub use rows::Rule;
 use shares::Share;
 use shares::listed::Listed;
 use tables::{Copied, CopyTable, Disk, PastTable, PendingTable, Snapshots, Store};
 
 // What the judge found and the writer needs: the page's share of the tables, the due snapshots, the page's mark after the flush,
 // and how many past rows stay.
-#[derive(Drop)]
+#[derive(Clone, Copy)]
 pub struct Plan {
-    share: Share,
-    due: Listed<u64, 64>,
-    mark: u64,
-    staying: usize,
+    pub share: Share,
+    pub due: Listed<u64, 64>,
+    pub mark: u64,
+    pub staying: usize,
 }
 
 impl Plan {
-    pub fn empty() -> Self {
+    // Nothing found yet.
+    pub fn empty() -> Self
+        ensures { (result.share.rows.items ≡ []) × (result.share.entries.items ≡ []) × (result.due.items ≡ []) × (result.mark ≡ 0) × (result.staying ≡ 0) }
+    {
         Plan {
             share: Share::none(),
             due: Listed::none(0),

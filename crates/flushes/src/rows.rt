@@ -21,7 +21,7 @@ pub struct Rule {
 }
 
 impl Rule {
-    pub fn new(h: Heads, page: u64, mark: u64) -> Self
+    pub(crate) fn new(h: Heads, page: u64, mark: u64) -> Self
         ensures { result ≡ rule_of h page mark }
     {
         Rule {
@@ -43,7 +43,7 @@ impl Rule {
     }
 
     // The entry is of the page, and its buried row stays.
-    pub fn leaves(self, disk: &Disk, dated: &Disk, e: Pending, snapshots: &Snapshots) -> bool
+    pub(crate) fn leaves(self, disk: &Disk, dated: &Disk, e: Pending, snapshots: &Snapshots) -> bool
         requires { Ruled snapshots.now self }
         ensures { result ≡ leaves_under disk.now dated.now snapshots.now self e }
     {

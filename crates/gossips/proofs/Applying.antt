@@ -2,12 +2,12 @@
 use Rattle.std.specs.Prelude.{None}
 use Prim.Native.Nat.{ℕ, ◌≤◌}
 use mathlib.Core.Path.{◌≡◌, refl, sym, ◌∙◌, subst}
-use mathlib.Core.Bool.{Bool}
+use mathlib.Core.Bool.{Bool, true}
 use mathlib.Core.List.{List, [], ◌∷◌, ◌++◌}
 use native.Mathlib.Omega.{arith}
 use lib.ListN.{length, take, get_or, length-take}
 use lib.Dec.{ltb}
-use Rattle.model.specs.Lists.{kept}
+use Rattle.model.specs.Lists.{kept, rising_from}
 use Rattle.model.specs.Store.{mark}
 use Rattle.model.specs.Changes.{gossip_store}
 use Rattle.tables.specs.declared.Store.{Store}
@@ -24,6 +24,11 @@ use Rattle.gossips.specs.Promises.{Ready, Added, LivesOn, Applied, with_past, wi
 kept_most : {A : Type 0} (f : A → Bool) (l : List A) → length (kept f l) ≤ length l
 kept_most f [] = omega arith
 kept_most f (x ∷ xs) = let ih = kept_most f xs in by_test (f x) (λ e. rw e (omega arith)) (λ e. rw e (omega arith))
+
+-- ---- the known snapshots
+pub added_rises : {store : Store} {snapshots' : List ℕ} {k : ℕ} {stamps : List ℕ}
+    → Ready store stamps → Added store.snapshots snapshots' store.heads.snapshots k store.heads.horizon stamps → rising_from 0 (take k snapshots') ≡ true
+added_rises a s = rw s.known a.rising
 
 -- ---- the past values that live on, where the marks are those of the copies
 pub none_live : (s : Store) (horizon : ℕ) → s.heads.past ≡ 0 → LivesOn s s horizon

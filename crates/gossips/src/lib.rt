@@ -102,9 +102,11 @@ fn add_known(snapshots: &mut Snapshots, n: usize, horizon: u64, stamps: &[u64]) 
     requires { (n + length (kept (ltb horizon) stamps.now) ≤ 64) × (rising_from 0 stamps.now ≡ true) }
     ensures { Added snapshots.old snapshots.new n result horizon stamps.now }
 {
-    let new = &stamps[count_known(stamps, horizon)..];
-    let known = n + new.len();
-    snapshots[n..known].copy_from_slice(new);
+    let mut known = n;
+    for stamp in &stamps[count_known(stamps, horizon)..] {
+        snapshots[known] = *stamp;
+        known += 1;
+    }
     known
 }
 

@@ -97,7 +97,7 @@ impl Keeper<'_> {
                 Answer::Done(0),
                 known.horizon,
                 known.last,
-                known.snapshots,
+                &known.stamps[..known.count as usize],
             ),
             None => terminal::say::known(rt, Answer::Damaged, 0, 0, &[]),
         }
@@ -203,7 +203,8 @@ impl Keeper<'_> {
         let path = self.path;
         match file::renew(rt, path, self.file.as_ref()) {
             Ok(next) => {
-                self.file = next;
+                // The old file is closed behind the answer.
+                let _old = std::mem::replace(&mut self.file, next);
                 let started = restart::fresh(&mut self.store);
                 self.renew(rt, started)
             }

@@ -1,5 +1,6 @@
 // A journal listed, a line for each record, and how its walk ends. The file is only read.
 use crate::say;
+use answers::line::Line;
 use files::{file, fit, names, paths, trouble};
 use model::Answer;
 use std::fs::File;
@@ -12,17 +13,18 @@ const MOST: u64 = 65536;
 // The records from the first one on up to a place. False where standard output takes no more.
 fn are_said(rt: &HostRuntime, journal: &[u8], end: usize) -> bool {
     let mut at: usize = 1;
+    let mut said = Line::new();
     for _ in 0..MOST {
         if end <= at {
             return true;
         }
-        let Some(listed) = listing::record_at(journal, at) else {
+        let Some(behind) = listing::record_at(journal, at, &mut said) else {
             return true;
         };
-        if !line(rt, &listed.line) {
+        if !line(rt, &said) {
             return false;
         }
-        at = listed.behind;
+        at = behind;
     }
     true
 }

@@ -113,10 +113,10 @@ module _ (b : List ℕ) where
   commit_formed : well_formed (commit_in b) ≡ fine_b (objects_in b)
   commit_formed = rw (paired_objects (objects_in b) (column 8 10 (get_or b 8 0) (drop 11 b)) same_length)
 
-  commit_missized : (length b ≡ 9 + 10 * get_or b 8 0 → ⊥) → None ≡ head_decoded (checked (length b + 1) (commit_in b))
+  pub commit_missized : (length b ≡ 9 + 10 * get_or b 8 0 → ⊥) → None ≡ head_decoded (checked (length b + 1) (commit_in b))
   commit_missized h = missized (length b + 1) (commit_in b) (λ e. h (omega (arith, commit_length, e)))
 
-  commit_over : 16 < get_or b 8 0 → None ≡ head_decoded (checked (length b + 1) (commit_in b))
+  pub commit_over : 16 < get_or b 8 0 → None ≡ head_decoded (checked (length b + 1) (commit_in b))
   commit_over h =
       let l : 16 < length (objects_in b) = omega (arith, column_length 2 10 (get_or b 8 0) (drop 9 b)) in
       misshapen (length b + 1) (commit_in b) (commit_formed ∙ rw (objects_over (objects_in b) l))
@@ -146,10 +146,10 @@ module _ (b : List ℕ) where
   gossip_formed : well_formed (gossip_in b) ≡ stamps_shaped (from_be (take 8 b)) (from_be (take 8 (drop 8 b))) (stamps_in b)
   gossip_formed = both_true _
 
-  gossip_missized : (length b ≡ 17 + 8 * get_or b 16 0 → ⊥) → None ≡ head_decoded (checked (length b + 1) (gossip_in b))
+  pub gossip_missized : (length b ≡ 17 + 8 * get_or b 16 0 → ⊥) → None ≡ head_decoded (checked (length b + 1) (gossip_in b))
   gossip_missized h = missized (length b + 1) (gossip_in b) (λ e. h (omega (arith, gossip_count, e)))
 
-  gossip_over : 16 < get_or b 16 0 → None ≡ head_decoded (checked (length b + 1) (gossip_in b))
+  pub gossip_over : 16 < get_or b 16 0 → None ≡ head_decoded (checked (length b + 1) (gossip_in b))
   gossip_over h =
       let l : 16 < length (stamps_in b) = omega (arith, gossip_count) in
       misshapen (length b + 1) (gossip_in b) (gossip_formed ∙ stamps_over _ _ (stamps_in b) l)
@@ -225,10 +225,10 @@ module _ (s : List ℕ) (at : ℕ) where
         let m : 2 ≤ length (drop at s) = omega arith in
         rw (e, nonempty (drop at s) o, le-ltb (length (drop at s)) 2 m, drop-drop 2 at s)
 
-    at_small : n < 2 → Malformed at ≡ head_step (step_at s at)
+    pub at_small : n < 2 → Malformed at ≡ head_step (step_at s at)
     at_small h = rw (at_sized, sized_small n (drop (at + 2) s) at h)
 
-    at_large : 170 < n → Malformed at ≡ head_step (step_at s at)
+    pub at_large : 170 < n → Malformed at ≡ head_step (step_at s at)
     at_large h = rw (at_sized, sized_large n (drop (at + 2) s) at h)
 
     pub at_outside : (2 ≤ n → n ≤ 170 → ⊥) → Malformed at ≡ head_step (step_at s at)

@@ -51,12 +51,12 @@ few_pairs (a ∷ b ∷ bs) h = absurd (omega arith)
 abbrev Written : List ℕ → ℕ → Type 0
 Written word i = take (512 - i) (hex_pairs (drop (2 * i) word)) ≡ []
 
-pair_short : (word : List ℕ) (i : ℕ) → length word ≤ 2 * i + 1 → Written word i
+pub pair_short : (word : List ℕ) (i : ℕ) → length word ≤ 2 * i + 1 → Written word i
 pair_short word i h =
     let l : length (drop (2 * i) word) ≤ 1 = simp length-drop (omega arith) in
     rw (few_pairs (drop (2 * i) word) l, take-nil)
 
-pair_full : (word : List ℕ) (i : ℕ) → 512 ≤ i → Written word i
+pub pair_full : (word : List ℕ) (i : ℕ) → 512 ≤ i → Written word i
 pair_full word i h = let z : 512 - i ≡ 0 = omega arith in rw z
 
 pub pair_none : (word : List ℕ) (i : ℕ) → i ≡ min 512 (length word / 2) → Written word i

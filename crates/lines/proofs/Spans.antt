@@ -17,7 +17,7 @@ use Rattle.lines.specs.declared.words.Span.{Span}
 use Rattle.lines.proofs.Cases.{by_test}
 use Rattle.lines.proofs.Runs.{run_within}
 
-rest_of : (s : List ℕ) (at : ℕ) → take (length s - at) (drop at s) ≡ drop at s
+pub rest_of : (s : List ℕ) (at : ℕ) → take (length s - at) (drop at s) ≡ drop at s
 rest_of s at = take_all (length s - at) (drop at s) (simp length-drop (omega arith))
 
 -- blanks before the words

@@ -5,18 +5,12 @@ use answers::line::Line;
 use journal::place::Place;
 use journal::walk::{CommitHead, GossipHead, Record, Step};
 
-// A whole record's line, and the place behind the record.
-#[derive(Drop)]
-pub struct Listed {
-    pub line: Line,
-    pub behind: usize,
-}
-
 // The bytes of a record, its length field among them. The lists are read where all of them is there, which is so in every whole record.
-fn commit(record: &[u8], head: CommitHead, at: usize) -> Line {
+fn commit(record: &[u8], head: CommitHead, at: usize, line: &mut Line) {
     let count = head.count;
     if 16 < count || record.len() != 12 + 10 * count {
-        return Line::new();
+        line.clear();
+        return;
     }
     let mut objects = [0u64; 16];
     let mut values = [0u64; 16];
@@ -29,37 +23,46 @@ fn commit(record: &[u8], head: CommitHead, at: usize) -> Line {
         &values[..count],
         at as u64,
         length,
+        line,
     )
 }
 
-fn gossip(record: &[u8], head: GossipHead, at: usize) -> Line {
+fn gossip(record: &[u8], head: GossipHead, at: usize, line: &mut Line) {
     let count = head.count;
     if 16 < count || record.len() != 20 + 8 * count {
-        return Line::new();
+        line.clear();
+        return;
     }
     let mut stamps = [0u64; 16];
     fields::get_column(record, 20, 8, 8, &mut stamps[..count]);
     let length = record.len() as u64;
-    answers::records::gossip_line(head.prev, head.curr, &stamps[..count], at as u64, length)
+    answers::records::gossip_line(
+        head.prev,
+        head.curr,
+        &stamps[..count],
+        at as u64,
+        length,
+        line,
+    )
 }
 
-fn line_of(bytes: &[u8], record: Record, at: usize) -> Line {
+fn lay(bytes: &[u8], record: Record, at: usize, line: &mut Line) {
     match record {
-        Record::Commit(head) => commit(bytes, head, at),
-        Record::Gossip(head) => gossip(bytes, head, at),
+        Record::Commit(head) => commit(bytes, head, at, line),
+        Record::Gossip(head) => gossip(bytes, head, at, line),
         Record::Flush(head) => {
-            answers::records::flush_line(head.page, at as u64, bytes.len() as u64)
+            answers::records::flush_line(head.page, at as u64, bytes.len() as u64, line)
         }
     }
 }
 
-// The whole record at a place, or none.
-pub fn record_at(journal: &[u8], at: usize) -> Option<Listed> {
+// The place behind the whole record at a place, whose line is laid; none where there is no whole record.
+pub fn record_at(journal: &[u8], at: usize, line: &mut Line) -> Option<usize> {
     match journal::reader::read_at(journal, Place { at }) {
-        Step::Whole { record, next } if at <= next.at && next.at <= journal.len() => Some(Listed {
-            line: line_of(&journal[at..next.at], record, at),
-            behind: next.at,
-        }),
+        Step::Whole { record, next } if at <= next.at && next.at <= journal.len() => {
+            lay(&journal[at..next.at], record, at, line);
+            Some(next.at)
+        }
         _ => None,
     }
 }

@@ -1,7 +1,7 @@
 // The calls over full tables; the counts say how many of the rows are contents.
 use crate::calls::Call;
 use crate::{calls, filled, lay};
-use tables::{Heads, Store, Written};
+use tables::{Heads, Store};
 
 // The object, object, snapshot and page of the last rows.
 #[derive(Clone, Copy)]
@@ -33,18 +33,15 @@ pub fn heads(pending: usize, past: usize, snapshots: usize, copies: usize) -> He
 }
 
 pub fn run(rt: &HostRuntime, label: u64, l: Last, h: Heads, call: Call, page: u64) {
-    let store = Store {
-        written: Written {
-            disk: lay::disk(),
-            dated: lay::dated(),
-            pending: filled::pending(l.entry),
-            past: filled::past(l.was),
-        },
-        snapshots: filled::snapshots(l.snap),
-        copies: filled::copies(l.page),
-        copied: lay::copied(),
-        heads: h,
-    };
+    let mut store = Store::empty();
+    lay::disk(&mut store.written.disk);
+    lay::dated(&mut store.written.dated);
+    filled::pending(&mut store.written.pending, l.entry);
+    filled::past(&mut store.written.past, l.was);
+    filled::snapshots(&mut store.snapshots, l.snap);
+    filled::copies(&mut store.copies, l.page);
+    lay::copied(&mut store.copied);
+    store.heads = h;
     let mut buffer = [99; 16];
     calls::line(rt, label, &store, call, page, &mut buffer);
 }

@@ -2,21 +2,18 @@
 use crate::calls::Call;
 use crate::store::Small;
 use crate::{calls, lay};
-use tables::{Store, Written};
+use tables::Store;
 
 pub fn into(rt: &HostRuntime, label: u64, s: Small, call: Call, page: u64, buffer: &mut [u64]) {
-    let store = Store {
-        written: Written {
-            disk: lay::disk(),
-            dated: lay::dated(),
-            pending: lay::pending(s.pending),
-            past: lay::past(s.past),
-        },
-        snapshots: lay::snapshots(s.known),
-        copies: lay::copies(s.copies),
-        copied: lay::copied(),
-        heads: s.heads,
-    };
+    let mut store = Store::empty();
+    lay::disk(&mut store.written.disk);
+    lay::dated(&mut store.written.dated);
+    lay::pending(&mut store.written.pending, s.pending);
+    lay::past(&mut store.written.past, s.past);
+    lay::snapshots(&mut store.snapshots, s.known);
+    lay::copies(&mut store.copies, s.copies);
+    lay::copied(&mut store.copied);
+    store.heads = s.heads;
     calls::line(rt, label, &store, call, page, buffer);
 }
 

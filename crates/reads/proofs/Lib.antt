@@ -1,5 +1,6 @@
 pub mod Undamaged
 pub mod Served
 pub mod Answers
+pub mod Ticks
 pub mod Figured
 pub mod Listed

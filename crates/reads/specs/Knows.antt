@@ -1,4 +1,4 @@
--- What standing and known promise: every part of the model's. C's array of the snapshots has zeros behind them up to the table's end.
+-- What standing and known promise: every part of the model's, the snapshots with zeros behind them up to the table's end.
 use Rattle.std.specs.Prelude.{ℕ, ◌-◌, ◌≡◌, ◌≤◌, List, [], ◌++◌, length, replicate, pos, Option, MatchOption}
 use Rattle.model.specs.declared.Answer.TheVariants.{Done, Damaged}
 use Rattle.model.specs.declared.Figures.{Figures}
@@ -16,9 +16,18 @@ Stands x r =
     (x ≡ record { answer = Damaged; figures = record { pending = 0; past = 0; snapshots = 0; copies = 0; lag = pos 0 } })
     (λ f. x ≡ record { answer = Done 0; figures = f })
 
--- the horizon, the last commit and the snapshots, as many as a store has at most, are told beside Done; Damaged tells none
+-- beside Done every part is told, and of snapshots there are no more than rows
+pub record Known (x : model.Knowledge) (k : Knowledge) : Type 0 where
+  pub answered : x.answer ≡ Done 0
+  pub horizon_is : k.horizon ≡ x.horizon
+  pub last_is : k.last ≡ x.last
+  pub counted : k.count ≡ length x.snapshots
+  pub listed : k.stamps ≡ padded x.snapshots
+  pub within : length x.snapshots ≤ most_snapshots
+
+-- Damaged tells none
 abbrev pub Knows : model.Knowledge → Option Knowledge → Type 0
 Knows x r =
     MatchOption r
     (x ≡ record { answer = Damaged; horizon = 0; last = 0; snapshots = [] })
-    (λ k. (x ≡ record { answer = Done 0; horizon = k.horizon; last = k.last; snapshots = k.snapshots.now }) × (length k.snapshots.now ≤ most_snapshots))
+    (λ k. Known x k)

@@ -18,12 +18,13 @@ use model::{Answer, Figures};
 use tables::{Index, Store};
 use views::{View, Word};
 
-// The horizon, the last commit, and every known snapshot.
+// The horizon, the last commit, and the known snapshots: how many, and each, with zeros behind them.
 #[derive(Clone, Copy)]
-pub struct Knowledge<'a> {
+pub struct Knowledge {
     pub horizon: u64,
     pub last: u64,
-    pub snapshots: &'a [u64],
+    pub count: u64,
+    pub stamps: [u64; 64],
 }
 
 fn read_shaped(page: u64, buffer: &[u64]) -> bool
@@ -116,8 +117,11 @@ pub fn clock_read(store: &Store, tick: u64, page: u64, buffer: &mut [u64]) -> An
 pub fn current_read(store: &Store, page: u64, buffer: &mut [u64]) -> Answer
     ensures { Read (model.current_read (stored store.now) page buffer.old) result buffer.new }
 {
+    if damage::out_of_range(store) {
+        return Answer::Damaged;
+    }
     let mut index = [128u8; 512];
-    if damage::damaged_or_indexed(store, &mut index) {
+    if damage::met_again(&store.written.pending, store.heads.pending, &mut index) {
         return Answer::Damaged;
     }
     if !read_shaped(page, buffer) {
@@ -158,27 +162,29 @@ pub fn standing(store: &Store) -> Option<Figures>
     })
 }
 
-// The horizon, the last commit, and every known snapshot; none of a damaged store.
-pub fn known(store: &Store) -> Option<Knowledge<'_>>
-    ensures { Knows (model.known (stored store.now)) result }
-{
-    if damage::damaged(store) {
-        return None;
-    }
-    let h = store.heads;
-    Some(Knowledge {
-        horizon: h.horizon,
-        last: h.last,
-        snapshots: &store.snapshots[..h.snapshots],
-    })
-}
-
 // Snapshots, and zeros behind them up to as many as a store has at most.
-pub fn padded(stamps: &[u64]) -> [u64; 64]
+fn padded(stamps: &[u64]) -> [u64; 64]
     requires { length stamps.now ≤ 64 }
     ensures { result ≡ padded stamps.now }
 {
     let mut all = [0u64; 64];
     all[..stamps.len()].copy_from_slice(stamps);
     all
+}
+
+// The horizon, the last commit, and every known snapshot; none of a damaged store.
+pub fn known(store: &Store) -> Option<Knowledge>
+    ensures { Knows (model.known (stored store.now)) result }
+{
+    if damage::damaged(store) {
+        return None;
+    }
+    let h = store.heads;
+    let stamps = padded(&store.snapshots[..h.snapshots]);
+    Some(Knowledge {
+        horizon: h.horizon,
+        last: h.last,
+        count: h.snapshots as u64,
+        stamps,
+    })
 }

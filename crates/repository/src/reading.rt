@@ -71,14 +71,17 @@ pub extern "C" fn jibcradle_known(store: &Store) -> Knowledge
     ensures { Knew (reads.known (stored store.now)) result }
 {
     match reads::known(store) {
-        Some(known) => Knowledge {
-            code: Answer::Done(0).code(),
-            number: 0,
-            horizon: known.horizon,
-            last: known.last,
-            count: known.snapshots.len() as u64,
-            stamps: reads::padded(known.snapshots),
-        },
+        Some(known) => {
+            let stamps = known.stamps;
+            Knowledge {
+                code: Answer::Done(0).code(),
+                number: 0,
+                horizon: known.horizon,
+                last: known.last,
+                count: known.count,
+                stamps,
+            }
+        }
         None => Knowledge {
             code: Answer::Damaged.code(),
             number: 0,

@@ -159,7 +159,7 @@ unfolding restart fresh_start
 restart_empty [] h = refl
 restart_empty (v ∷ rest) h = absurd (omega arith)
 
-restart_version : (j : List ℕ) → length j ≤ 65535 → 0 < length j → (get_or j 0 0 ≡ 1 → ⊥) → restart j ≡ refused (Version (get_or j 0 0))
+pub restart_version : (j : List ℕ) → length j ≤ 65535 → 0 < length j → (get_or j 0 0 ≡ 1 → ⊥) → restart j ≡ refused (Version (get_or j 0 0))
 unfolding restart
 restart_version [] h l n = absurd (omega arith)
 restart_version (v ∷ rest) h l n = rw (le-ltb 65535 (length (v ∷ rest)) h, ne_eqb v 1 n)

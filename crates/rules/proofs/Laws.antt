@@ -1,10 +1,12 @@
 -- A test of a list, asked from a place i on: what a turn of a loop at i leaves of it, where a turn settles it, and what it is at the end.
-use Prim.Native.Nat.{ℕ, zero, suc, ◌<◌}
+use Prim.Native.Nat.{ℕ, zero, suc, ◌+◌, ◌<◌, ◌≤◌}
 use mathlib.Core.Path.{◌≡◌, refl, sym}
 use mathlib.Core.Bool.{Bool, true, false, true≢false}
 use mathlib.Core.List.{List, [], ◌∷◌}
+use native.Mathlib.Numerals.{add-one}
 use native.Mathlib.Omega.{arith}
-use lib.ListN.{length, get_or}
+use lib.ListN.{length, drop, get_or, drop_of_length-le}
+use lib.Seq.{drop-cons}
 use lib.Dec.{ltb, leb}
 use Rattle.std.specs.List.{list_all}
 use borrow.Author.Tests.{ltb-true}
@@ -20,6 +22,17 @@ both_left false b e = e
 both_right : (a b : Bool) → both a b ≡ true → b ≡ true
 both_right true b e = e
 both_right false b e = absurd (true≢false (sym e))
+
+module _ {A : Type 0} (f : A → Bool) (l : List A) (i : ℕ) (d : A) (h : i < length l) where
+  pub all_next : f (get_or l i d) ≡ true → all_b f (drop i l) ≡ all_b f (drop (i + 1) l)
+  all_next e = rw (add-one, drop-cons l i d, e)
+
+  pub all_stop : f (get_or l i d) ≡ false → all_b f (drop i l) ≡ false
+  all_stop e = rw (drop-cons l i d, e)
+
+module _ {A : Type 0} (f : A → Bool) (l : List A) (i : ℕ) (h : length l ≤ i) where
+  pub all_end : all_b f (drop i l) ≡ true
+  all_end = rw (drop_of_length-le l h)
 
 -- as the library asks it
 pub all_listed : {A : Type 0} (f : A → Bool) (l : List A) → list_all f l ≡ all_b f l

@@ -1,7 +1,7 @@
 -- A page as of many stamps: sixteen words a stamp, one word put for all stamps of a span, and rows laid over all of them.
 use Prim.Native.Nat.{ℕ, zero, suc, ◌+◌, ◌*◌, ◌≤◌, ◌<◌}
 use mathlib.Core.Path.{◌≡◌, refl, ap, sym, ◌∙◌}
-use mathlib.Core.Bool.{Bool, true}
+use mathlib.Core.Bool.{Bool, true, false}
 use mathlib.Core.List.{List, [], ◌∷◌, ◌++◌}
 use native.Mathlib.Omega.{arith}
 use lib.ListN.{length, take, drop, get_or, set, length-set, length-drop}
@@ -27,7 +27,11 @@ use Rattle.shares.specs.Shares.{row_of_page, rows_at, Shared}
 use Rattle.shares.specs.Many.{Pages, page_at}
 use Rattle.shares.proofs.Laying.{lay_listed}
 
--- ---- stamps in order
+-- ---- what is shown as of a stamp is shown as of those before it, from its own on
+pub shown_before : (shown : ℕ → Bool) (own : ℕ) → ((s t : ℕ) → own ≤ s → s ≤ t → shown s ≡ false → shown t ≡ false)
+    → (s : ℕ) {t : ℕ} → shown t ≡ true → own ≤ s → s ≤ t → shown s ≡ true
+shown_before shown own over s {t} e h m = by_test (shown s) (λ y. y) (λ n. let z = over s t h m n in cc)
+
 -- ---- sixteen words from a place on
 cut_take : (b a : ℕ) (l : List ℕ) → b + 16 ≤ a → take 16 (drop b (take a l)) ≡ take 16 (drop b l)
 cut_take zero a l h = take-take 16 a l (omega arith)
@@ -99,14 +103,14 @@ pages_same {f} {g} {stamps} e p = record { pages = λ j h. p.pages j h ∙ e (ge
 -- ---- the page as of a stamp: its rows over its words on disk, and its entries over them
 pub page_listed : (w : Written) (h : Heads) (page : ℕ) (word : Word) → Sized w → Lookable w h page
     → (share : Share) → Shared w h page share → (s : ℕ)
-    → lay (shows_by (Some s)) (λ e. slot_of e.object) (λ e. part_of word (pending_seen e)) (rows_at (pending_of []) (pendings w.pending) share.entries)
-    (lay (covers_by (Some s)) (λ q. slot_of q.object) (λ q. part_of word (past_seen q)) (rows_at (past_of []) (pasts w.past) share.rows)
+    → lay (shows_by (Some s)) (λ e. slot_of e.object) (λ e. part_of word (pending_seen e)) (rows_at (pending_of []) (pendings w.pending) share.entries.items)
+    (lay (covers_by (Some s)) (λ q. slot_of q.object) (λ q. part_of word (past_seen q)) (rows_at (past_of []) (pasts w.past) share.rows.items)
     (page16 (λ k. part_of word (record { value = get_or w.disk (object_at page k) 0; stamp = get_or w.dated (object_at page k) 0 }))))
     ≡ page_at w h page word s
 page_listed w h page word z a share b s =
     let v : View = record { page = page; as_of = Some s; word = word } in
     let out = page16 (λ k. part_of word (on_disk w h v k)) in
-    let under = lay_listed (covers_by (Some s)) (λ q. slot_of q.object) (λ q. part_of word (past_seen q)) (past_of []) (pasts w.past) share.rows (row_of_page page) h.past b.past_rows out
+    let under = lay_listed (covers_by (Some s)) (λ q. slot_of q.object) (λ q. part_of word (past_seen q)) (past_of []) (pasts w.past) share.rows.items (row_of_page page) h.past b.past_rows out
     ∙ below_past w h v refl in
-    lay_listed (shows_by (Some s)) (λ e. slot_of e.object) (λ e. part_of word (pending_seen e)) (pending_of []) (pendings w.pending) share.entries (of_page page) h.pending b.entries _
+    lay_listed (shows_by (Some s)) (λ e. slot_of e.object) (λ e. part_of word (pending_seen e)) (pending_of []) (pendings w.pending) share.entries.items (of_page page) h.pending b.entries _
     ∙ sight_page w h v z a under [] [] []

@@ -1,3 +1,4 @@
+pub mod Listing
 pub mod Shares
 pub mod Lulls
 pub mod Many

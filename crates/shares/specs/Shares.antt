@@ -25,5 +25,5 @@ pub record Numbered {A : Type 0} (d : A) (f : A → Bool) (l : List A) (n : ℕ)
   pub fewer : length numbers ≤ n
 
 pub record Shared (w : Written) (h : Heads) (page : ℕ) (share : Share) : Type 0 where
-  pub past_rows : Numbered (past_of []) (row_of_page page) (pasts w.past) h.past share.rows
-  pub entries : Numbered (pending_of []) (of_page page) (pendings w.pending) h.pending share.entries
+  pub past_rows : Numbered (past_of []) (row_of_page page) (pasts w.past) h.past share.rows.items
+  pub entries : Numbered (pending_of []) (of_page page) (pendings w.pending) h.pending share.entries.items

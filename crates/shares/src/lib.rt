@@ -16,7 +16,7 @@ use tables::{Heads, Written};
 use views::rows::Row;
 
 // A page's past rows and its entries, by their numbers in the tables, in their order.
-#[derive(Drop)]
+#[derive(Clone, Copy)]
 pub struct Share {
     pub rows: Listed<u8, 256>,
     pub entries: Listed<u8, 128>,
@@ -24,7 +24,7 @@ pub struct Share {
 
 impl Share {
     pub fn none() -> Self
-        ensures { (result.rows ≡ []) × (result.entries ≡ []) }
+        ensures { (result.rows.items ≡ []) × (result.entries.items ≡ []) }
     {
         Share {
             rows: Listed::none(0),
@@ -36,7 +36,7 @@ impl Share {
 // The numbers of those of the first n rows that are of the page.
 fn number<R: Row, const N: usize>(t: &R::Table, n: usize, page: u64, numbers: &mut Listed<u8, N>)
     requires { (n ≤ R.room) × (n ≤ N) × (n ≤ 256) × (n ≤ length (R.rows t.now)) }
-    ensures { Numbered R.blank (λ r. eqb (page_of (R.object_of r)) page) (R.rows t.now) n numbers.new }
+    ensures { Numbered R.blank (λ r. eqb (page_of (R.object_of r)) page) (R.rows t.now) n numbers.new.items }
 {
     numbers.clear();
     for i in 0..n {

@@ -128,6 +128,9 @@ wanted_last (x ∷ xs) m q =
     ∙ ap (λ k. wants_b k m q) (sym (last_cons x q.until xs))
 
 -- ---- a stamp that is wanted beyond 0: the mark decides
+pub wants_some : (s : ℕ) (q : Past) → wants_b s 0 q ≡ true → 0 < s
+wants_some s q w = ltb-true 0 s (both_right (leb q.from s) (ltb 0 s) w)
+
 pub wants_none : (s m : ℕ) (q : Past) → wants_b s 0 q ≡ false → wants_b s m q ≡ false
 wants_none s m q w =
     by_test (wants_b s m q)

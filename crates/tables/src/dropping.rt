@@ -30,9 +30,9 @@ fn stays(q: Past, horizon: u64, s: u64, marks: &[u64; 32]) -> bool
     crate::lookups::wants(q, s, marked)
 }
 
-// The rows that stay go to the front in their order; the result is their count.
+// Of the rows that are judged, those that stay go to the front in their order; the result is their count.
 pub fn compact(rows: &mut [Past], stay: &[bool]) -> usize
-    requires { length rows.old ≡ length stay.now }
+    requires { length stay.now ≤ length rows.old }
     ensures { Compacted stay.now (length stay.now) rows.old rows.new result }
 {
     let mut k: usize = 0;

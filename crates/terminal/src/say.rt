@@ -71,12 +71,16 @@ pub fn line(rt: &HostRuntime, line: &Line) -> bool {
 }
 
 pub fn answer(rt: &HostRuntime, a: Answer) -> bool {
-    line(rt, &answers::answer_line(a))
+    let mut said = Line::new();
+    answers::answer_line(a, &mut said);
+    line(rt, &said)
 }
 
 // Two numbers, and stamps behind them.
 pub fn known(rt: &HostRuntime, a: Answer, one: u64, two: u64, stamps: &[u64]) -> bool {
-    line(rt, &answers::known_line(a, one, two, stamps))
+    let mut said = Line::new();
+    answers::known_line(a, one, two, stamps, &mut said);
+    line(rt, &said)
 }
 
 // How many bytes a call has written into lent ones: its answer's number, where it is Done.
@@ -91,14 +95,18 @@ pub fn written(a: Answer, lent: &[u8]) -> usize
 
 // The answer, and behind it the bytes in hex.
 pub fn bytes(rt: &HostRuntime, a: Answer, bytes: &[u8]) -> bool {
-    line(rt, &answers::bytes_line(a, bytes))
+    let mut said = Line::new();
+    answers::bytes_line(a, bytes, &mut said);
+    line(rt, &said)
 }
 
 // The answer to the line of this number, which is no call.
 pub fn wrong(rt: &HostRuntime, mistake: Mistake, number: u64) -> bool {
     let fault = mistake.fault as u64;
     let column = mistake.column as u64;
-    line(rt, &answers::fault_line(fault, number, column))
+    let mut said = Line::new();
+    answers::fault_line(fault, number, column, &mut said);
+    line(rt, &said)
 }
 
 // `? line N`, and what is wrong with the whole of it.
@@ -108,7 +116,9 @@ pub fn wrong_line(rt: &HostRuntime, number: u64, what: &[u8]) -> bool {
 
 // The first word is `opened ` or `refused `.
 pub fn opening(rt: &HostRuntime, word: &[u8], path: &[u8], a: Answer) -> bool {
-    text(rt, word) && text(rt, path) && line(rt, &answers::opened_line(a))
+    let mut said = Line::new();
+    answers::opened_line(a, &mut said);
+    text(rt, word) && text(rt, path) && line(rt, &said)
 }
 
 // `? `, a name and what is wrong with it.

@@ -32,7 +32,7 @@ module _ {A : Type 0} (f : A → Bool) (slot word : A → ℕ) where
     pub lay_more : {x : A} {y : List ℕ} → x ≡ get_or l (i - 1) d → y ≡ pick (f x) (set out (slot x) (word x)) out → y ≡ lay f slot word (drop (i - 1) (take n l)) out₀
     lay_more p e = e ∙ rw (back_cons t d, ← p, v)
 
-    lay_no : {x : A} → x ≡ get_or l (i - 1) d → f x ≡ false → out ≡ lay f slot word (drop (i - 1) (take n l)) out₀
+    pub lay_no : {x : A} → x ≡ get_or l (i - 1) d → f x ≡ false → out ≡ lay f slot word (drop (i - 1) (take n l)) out₀
     lay_no p e = rw (back_cons t d, ← p, e) v
 
   -- rows that a narrower test leaves out are passed by

@@ -3,3 +3,4 @@ pub mod Laying
 pub mod Slots
 pub mod Showing
 pub mod Sights
+pub mod Dates

@@ -13,7 +13,7 @@ use Rattle.flushes.proofs.judge_flush.Goals as goal
 use Rattle.flushes.proofs.judge_flush.Goals.{After-verdict-verdict}
 
 -- the due snapshots are listed
-known : (c : After-verdict-verdict) → Listed (stored c.args.store.now) c.args.page c.list_dues.new.due c.highest-mark.result
+known : (c : After-verdict-verdict) → Listed (stored c.args.store.now) c.args.page c.list_dues.new.due.items c.highest-mark.result
 known c =
     let s = c.args.store.now in
     listing s c.args.page c.requires c.whole.ensures (c.mark_of-marked.ensures s.copied) c.list_dues.ensures

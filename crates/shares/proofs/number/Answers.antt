@@ -20,13 +20,13 @@ loop-i-preserved g c =
     let e = ap (λ o. eqb (page_of o) a.page) (sym c.object.ensures) in
     (elim c.if-object-page.branch [
       | then-object-page w ↦ rw (w.numbers-is, w.push.ensures) (
-        omega (arith, length-append v.numbers (v.i ∷ [])),
-        inside_push v.numbers v.i a.n v.invariant.1 h,
-        number_more t.blank (λ r. eqb (page_of (t.object_of r)) a.page) (t.rows a.t.now) a.n v.i v.numbers {W = kept (λ r. eqb (page_of (t.object_of r)) a.page) (take a.n (t.rows a.t.now))} v.invariant.2 h (omega arith) c.at.ensures (e ∙ eq-eqb _ _ w.if-object-page.true),
+        omega (arith, length-append v.numbers.items (v.i ∷ [])),
+        inside_push v.numbers.items v.i a.n v.invariant.1 h,
+        number_more t.blank (λ r. eqb (page_of (t.object_of r)) a.page) (t.rows a.t.now) a.n v.i v.numbers.items {W = kept (λ r. eqb (page_of (t.object_of r)) a.page) (take a.n (t.rows a.t.now))} v.invariant.2 h (omega arith) c.at.ensures (e ∙ eq-eqb _ _ w.if-object-page.true),
       )
       | else-object-page w ↦ rw w.numbers-is (
         omega arith,
         v.invariant.1,
-        number_less t.blank (λ r. eqb (page_of (t.object_of r)) a.page) (t.rows a.t.now) a.n v.i v.numbers {W = kept (λ r. eqb (page_of (t.object_of r)) a.page) (take a.n (t.rows a.t.now))} v.invariant.2 h (omega arith) c.at.ensures (e ∙ ne_eqb _ _ w.if-object-page.false),
+        number_less t.blank (λ r. eqb (page_of (t.object_of r)) a.page) (t.rows a.t.now) a.n v.i v.numbers.items {W = kept (λ r. eqb (page_of (t.object_of r)) a.page) (take a.n (t.rows a.t.now))} v.invariant.2 h (omega arith) c.at.ensures (e ∙ ne_eqb _ _ w.if-object-page.false),
       )
     ])

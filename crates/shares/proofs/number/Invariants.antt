@@ -10,6 +10,6 @@ use Rattle.shares.specs.Shares.{rows_at}
 use Rattle.shares.proofs.number.Given as goal
 
 abbrev pub invariant-loop-i : goal.invariant-loop-i
-invariant-loop-i g l = (length l.numbers ≤ l.i) × ((j : ℕ) → j < length l.numbers → get_or l.numbers j 0 < l.n)
-    × (rows_at g.R.Row.blank (g.R.Row.rows l.t) l.numbers ++ kept (λ r. eqb (page_of (g.R.Row.object_of r)) l.page) (drop l.i (take l.n (g.R.Row.rows l.t)))
+invariant-loop-i g l = (length l.numbers.items ≤ l.i) × ((j : ℕ) → j < length l.numbers.items → get_or l.numbers.items j 0 < l.n)
+    × (rows_at g.R.Row.blank (g.R.Row.rows l.t) l.numbers.items ++ kept (λ r. eqb (page_of (g.R.Row.object_of r)) l.page) (drop l.i (take l.n (g.R.Row.rows l.t)))
     ≡ kept (λ r. eqb (page_of (g.R.Row.object_of r)) l.page) (take l.n (g.R.Row.rows l.t)))

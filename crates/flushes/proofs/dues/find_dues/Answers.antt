@@ -16,14 +16,14 @@ loop-j-preserved c = let v = c.loop-j in
           rw (w.due-is, w.push.ensures) (
             simp length-append (omega arith),
             λ st p m n b k t.
-                list_yes st p m a.snapshots.now n v.j v.due (v.invariant.1 st p m n b k t) (omega arith) (omega arith)
+                list_yes st p m a.snapshots.now n v.j v.due.items (v.invariant.1 st p m n b k t) (omega arith) (omega arith)
                 (sym (told_due st p m a.snapshots.now n a.low a.high a.ages.now t v.j v.auto.j h e) ∙ w.if-some_beyond.true),
           )
       | else-some_beyond w ↦
           rw w.due-is (
             omega arith,
             λ st p m n b k t.
-                list_no st p m a.snapshots.now n v.j v.due (v.invariant.1 st p m n b k t) (omega arith) (omega arith)
+                list_no st p m a.snapshots.now n v.j v.due.items (v.invariant.1 st p m n b k t) (omega arith) (omega arith)
                 (sym (told_due st p m a.snapshots.now n a.low a.high a.ages.now t v.j v.auto.j h e) ∙ w.if-some_beyond.false),
           )
     ]

@@ -17,7 +17,7 @@ seen c = let s = c.args.store.now in seen_in s.written s.heads
 
 -- those listed before the last snapshot
 abbrev found : After-some_beyond → List ℕ
-found c = c.list_between.new.due
+found c = c.list_between.new.due.items
 
 some : (c : After-some_beyond) → let n = c.args.store.now.heads.snapshots in n - 1 + 1 ≡ n
 some c = omega (arith, c.if-h-eq0.false)

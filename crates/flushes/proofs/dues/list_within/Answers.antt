@@ -26,6 +26,6 @@ returns-clause-by_index c = let a = c.args in
     let l = s.snapshots in
     let n = s.heads.snapshots in
     λ m f.
-    listed_high (seen_in s.written s.heads) a.page m (take n l) a.low a.high c.requires.low_lt_high.0 c.find_dues.new.due
+    listed_high (seen_in s.written s.heads) a.page m (take n l) a.low a.high c.requires.low_lt_high.0 c.find_dues.new.due.items
     (c.find_dues.ensures.listed_to (seen_in s.written s.heads) a.page m n (omega arith) (omega arith)
     (pages_tell s.written s.heads a.page m l n a.low a.high c.requires.high_bound.0 (omega arith) f c.look_at_all.ensures))

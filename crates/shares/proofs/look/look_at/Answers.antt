@@ -22,7 +22,7 @@ under c =
     (elim c.if-is_some.branch [
       | then-is_some b ↦ b.out-is ∙ b.lay_numbered.ensures
           ∙ ap (λ ns. lay (covers_by v.as_of) (λ q. slot_of q.object) (λ q. part_of v.word (past_seen q)) (rows_at (past_of []) (pasts a.w.now.past) ns) c.lay_disk.new.out) b.listed.ensures
-          ∙ lay_listed (covers_by v.as_of) (λ q. slot_of q.object) (λ q. part_of v.word (past_seen q)) (past_of []) (pasts a.w.now.past) a.share.now.rows (row_of_page v.page) a.h.past c.requires.shared.0.past_rows c.lay_disk.new.out
+          ∙ lay_listed (covers_by v.as_of) (λ q. slot_of q.object) (λ q. part_of v.word (past_seen q)) (past_of []) (pasts a.w.now.past) a.share.now.rows.items (row_of_page v.page) a.h.past c.requires.shared.0.past_rows c.lay_disk.new.out
           ∙ below_past a.w.now a.h v d
       | else-is_some b ↦ b.out-is ∙ below_now a.w.now a.h v d (sym c.is_some.ensures ∙ b.if-is_some.false)
     ])
@@ -33,5 +33,5 @@ returns c snapshots copies copied =
     let v = a.v in
     c.lay_numbered-2.ensures
     ∙ ap (λ ns. lay (shows_by v.as_of) (λ e. slot_of e.object) (λ e. part_of v.word (pending_seen e)) (rows_at (pending_of []) (pendings a.w.now.pending) ns) c.if-is_some.out) c.listed-2.ensures
-    ∙ lay_listed (shows_by v.as_of) (λ e. slot_of e.object) (λ e. part_of v.word (pending_seen e)) (pending_of []) (pendings a.w.now.pending) a.share.now.entries (of_page v.page) a.h.pending c.requires.shared.0.entries c.if-is_some.out
+    ∙ lay_listed (shows_by v.as_of) (λ e. slot_of e.object) (λ e. part_of v.word (pending_seen e)) (pending_of []) (pendings a.w.now.pending) a.share.now.entries.items (of_page v.page) a.h.pending c.requires.shared.0.entries c.if-is_some.out
     ∙ sight_page a.w.now a.h v (record { pending_rows = search rules; past_rows = search rules }) c.requires.lookable (under (goal.at.returns c).Joined-is_some) snapshots copies copied
