@@ -61,7 +61,8 @@ pub fn sixteen(words: &[u64], at: usize, out: &mut [u64])
     copy_sixteen(&held, 0, out);
 }
 
-// The page's sixteen words on disk.
+// The page's sixteen words on disk. A look at a page of an empty store is little more than this.
+#[inline(always)]
 pub fn lay_disk(w: &Written, page: u64, word: Word, out: &mut [u64])
     requires { (page < 32) × (length out.old ≡ 16) }
     ensures { out.new ≡ page16 (λ k. part_of word (record { value = get_or w.now.disk (object_at page k) 0; stamp = get_or w.now.dated (object_at page k) 0 })) }
