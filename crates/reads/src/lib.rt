@@ -162,14 +162,22 @@ pub fn standing(store: &Store) -> Option<Figures>
     })
 }
 
-// Snapshots, and zeros behind them up to as many as a store has at most.
-fn padded(stamps: &[u64]) -> [u64; 64]
+// A row for each snapshot that a store can know: these, and zeros behind them.
+fn snapshot_rows(stamps: &[u64]) -> [u64; 64]
     requires { length stamps.now ≤ 64 }
     ensures { result ≡ padded stamps.now }
 {
     let mut all = [0u64; 64];
     all[..stamps.len()].copy_from_slice(stamps);
     all
+}
+
+// Snapshots, and zeros behind them up to as many as a store has at most. Those beyond that many are left out.
+pub fn padded(stamps: &[u64]) -> [u64; 64]
+    ensures all { length stamps.now ≤ 64 → result ≡ padded stamps.now }
+    ensures first { result ≡ padded (take 64 stamps.now) }
+{
+    snapshot_rows(&stamps[..stamps.len().min(64)])
 }
 
 // The horizon, the last commit, and every known snapshot; none of a damaged store.
@@ -180,11 +188,36 @@ pub fn known(store: &Store) -> Option<Knowledge>
         return None;
     }
     let h = store.heads;
-    let stamps = padded(&store.snapshots[..h.snapshots]);
+    let stamps = snapshot_rows(&store.snapshots[..h.snapshots]);
     Some(Knowledge {
         horizon: h.horizon,
         last: h.last,
         count: h.snapshots as u64,
         stamps,
     })
+}
+
+#[cfg(test)]
+mod tests {
+    use super::padded;
+    use std::test::Fail;
+
+    // Of none, of two, of as many as a store has at most, and of one more.
+    #[test]
+    fn snapshots_in_their_rows() -> Result<(), Fail> {
+        let none = padded(&[]) == [0; 64];
+        none.then_some(()).ok_or("of none")?;
+        let rows = padded(&[5, 7]);
+        let two = rows[0] == 5 && rows[1] == 7 && rows[2] == 0 && rows[63] == 0;
+        two.then_some(()).ok_or("of two")?;
+        let mut stamps = [3u64; 65];
+        stamps[63] = 8;
+        stamps[64] = 9;
+        let rows = padded(&stamps[..64]);
+        let all = rows[0] == 3 && rows[62] == 3 && rows[63] == 8;
+        all.then_some(()).ok_or("of sixty-four")?;
+        let first = padded(&stamps) == rows;
+        first.then_some(()).ok_or("of one more")?;
+        Ok(())
+    }
 }

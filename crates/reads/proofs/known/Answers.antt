@@ -9,13 +9,13 @@ use Rattle.reads.proofs.known.Goals as goal
 pub returns-then-damaged : goal.returns-then-damaged
 returns-then-damaged c = told_none _ (sym c.damaged.ensures ∙ c.if-damaged.true)
 
-pub shared_ref_as_front-padded : goal.shared_ref_as_front-padded
-shared_ref_as_front-padded c = (counts_in c.args.store.now (sym c.damaged.ensures ∙ c.if-damaged.false)).snapshot_count
+pub shared_ref_as_front-snapshot_rows : goal.shared_ref_as_front-snapshot_rows
+shared_ref_as_front-snapshot_rows c = (counts_in c.args.store.now (sym c.damaged.ensures ∙ c.if-damaged.false)).snapshot_count
 
-pub padded-stamps-requires : goal.padded-stamps-requires
-padded-stamps-requires c =
+pub snapshot_rows-stamps-requires : goal.snapshot_rows-stamps-requires
+snapshot_rows-stamps-requires c =
     let n = counts_in c.args.store.now (sym c.damaged.ensures ∙ c.if-damaged.false) in
     simp length-take (omega (arith, n.snapshot_count))
 
 pub returns : goal.returns
-returns c = told_padded c.args.store.now (sym c.damaged.ensures ∙ c.if-damaged.false) (search rules) c.padded-stamps.ensures
+returns c = told_padded c.args.store.now (sym c.damaged.ensures ∙ c.if-damaged.false) (search rules) c.snapshot_rows-stamps.ensures
